@@ -1,0 +1,4 @@
+pub mod Laws
+pub mod Numeral
+pub mod Refs
+pub mod Lines
