@@ -1,0 +1,10 @@
+pub mod Sums
+pub mod Entries
+pub mod Operations
+pub mod Blocks
+pub mod Quadrants
+pub mod RowByRow
+pub mod Totals
+pub mod Peaks
+pub mod Zeros
+pub mod Fits
