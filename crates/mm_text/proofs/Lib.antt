@@ -1,0 +1,9 @@
+pub mod CellsMade
+pub mod Passing
+pub mod Words
+pub mod Rests
+pub mod Gathered
+pub mod Order
+pub mod Values
+pub mod MatrixRead
+pub mod Refusals
