@@ -1,0 +1,8 @@
+pub mod Script
+pub mod Verdict
+pub mod Notes
+pub mod Answers
+pub mod Number
+pub mod Reading
+pub mod Found
+pub mod Judged

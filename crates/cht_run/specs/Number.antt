@@ -1,0 +1,12 @@
+-- The numbers of the ways in which a run ends.
+use Rattle.std.specs.Prelude.{ℕ}
+use Rattle.cht_run.specs.declared.status.Status.{Status}
+use Rattle.cht_run.specs.declared.status.Status.TheVariants.{Done, Usage, Refused, ReadFault, WriteFault, Memory}
+
+abbrev pub number_of_status : Status → ℕ
+number_of_status Done = 0
+number_of_status Usage = 1
+number_of_status (Refused fault) = 2
+number_of_status ReadFault = 3
+number_of_status WriteFault = 4
+number_of_status Memory = 5

@@ -1,0 +1,16 @@
+//! The run of a script, from the words of the command line and the bytes of a source to the bytes of a sink.
+#![tactic(auto)]
+
+mod command;
+mod notes;
+mod plain;
+mod reading;
+mod script;
+mod status;
+
+pub use command::cht;
+pub use plain::plain_call;
+pub use status::{Fault, Status};
+
+#[cfg(test)]
+mod tests;
