@@ -1,0 +1,2 @@
+pub mod SlabMap
+pub mod Writes
