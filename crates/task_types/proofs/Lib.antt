@@ -1,0 +1,9 @@
+pub mod Facts
+pub mod FormedTest
+pub mod InOrder
+pub mod Presence
+pub mod Reading
+pub mod Shown
+pub mod Sound
+pub mod SumsSound
+pub mod Texts

@@ -1,0 +1,8 @@
+use Rattle.std.proofs.Common.{ℕ, ◌<◌}
+use Rattle.std.specs.Prelude.{IsTrue}
+use Rattle.task_types.specs.Formed.{is_task_used}
+use Rattle.task_types.proofs.formed.are_tasks_used.Given as goal
+
+-- each task so far is used
+abbrev pub invariant-loop-i : goal.invariant-loop-i
+invariant-loop-i g l = (k : ℕ) → k < l.i → IsTrue (is_task_used l.tasks l.output k)

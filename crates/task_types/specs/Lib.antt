@@ -1,0 +1,12 @@
+pub mod Tree
+pub mod TreeCode
+pub mod Names
+pub mod Presence
+pub mod Shown
+pub mod Places
+pub mod Formed
+pub mod Reading
+pub mod Meanings
+pub mod Sound
+pub mod Sums
+pub mod SumLaws
