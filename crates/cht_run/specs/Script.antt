@@ -8,6 +8,7 @@ use Rattle.mm_text.specs.Block.{Block, lies_within, natural, block_in, lines_tak
 
 -- ---- Names
 
+-- an ASCII letter
 abbrev pub is_letter : ℕ → Bool
 is_letter byte = (nat_le 65 byte && nat_le byte 90) || (nat_le 97 byte && nat_le byte 122)
 
@@ -59,6 +60,7 @@ pub record Script : Type 0 where
   pub name : List ℕ
   pub block : Block
 
+-- a block, where the line `print NAME` and nothing else follows its lines
 abbrev pub if_printed : List ℕ → List (List ℕ) → Block → Option Block
 if_printed name lines block = if are_print name (drop (lines_taken block) lines) then Some block else None
 
@@ -66,6 +68,7 @@ if_printed name lines block = if are_print name (drop (lines_taken block) lines)
 abbrev pub printed_block : ℕ → List ℕ → List (List ℕ) → Option Block
 printed_block grid name lines = option_and_then (if_printed name lines) (block_in grid lines)
 
+-- the script of the lines behind its first two, for the grid line's numbers and the name
 abbrev pub script_from : List (List ℕ) → ℕ × ℕ → List ℕ → Option Script
 script_from lines limits name =
     option_map (λ block. record { grid = limits.0; leaf = limits.1; name = name; block = block }) (printed_block limits.0 name lines)

@@ -23,5 +23,6 @@ abbrev pub printed : Option Script → List ℕ
 printed None = []
 printed (Some script) = general_text (matrix_of script.block)
 
+-- what a text prints, read as a script
 abbrev pub meaning : List ℕ → List ℕ
 meaning text = printed (script_of text)

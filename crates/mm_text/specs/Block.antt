@@ -24,6 +24,7 @@ abbrev pub lies_within : ℕ → ℕ → ℤ → Bool
 lies_within low high (pos n) = nat_le low n && nat_le n high
 lies_within low high (negsuc n) = false
 
+-- a number that is not negative, and 0 for one that is
 abbrev pub natural : ℤ → ℕ
 natural (pos n) = n
 natural (negsuc n) = 0
@@ -45,6 +46,7 @@ sizes_from grid n =
     then Some (record { rows = natural n.0; columns = natural n.1; entries = natural n.2 })
     else None
 
+-- what a size line says, for the largest number of rows and columns
 abbrev pub sizes_of : ℕ → List ℕ → Option Sizes
 sizes_of grid line = option_and_then (sizes_from grid) (three_of line)
 
@@ -55,6 +57,7 @@ entry_from sizes n =
     then Some (record { row = natural n.0; column = natural n.1; value = n.2 })
     else None
 
+-- what an entry line says
 abbrev pub entry_of : Sizes → List ℕ → Option Entry
 entry_of sizes line = option_and_then (entry_from sizes) (three_of line)
 
@@ -78,6 +81,7 @@ pub record Block : Type 0 where
   pub sizes : Sizes
   pub entries : List Entry
 
+-- the block of these entries, where no two of them name one place
 abbrev pub block_of_entries : Sizes → List Entry → Option Block
 block_of_entries sizes entries = if have_no_repeats entries then Some (record { sizes = sizes; entries = entries }) else None
 
@@ -86,6 +90,7 @@ abbrev pub entries_in : Sizes → List (List ℕ) → Option (List Entry)
 entries_in sizes lines =
     if nat_le sizes.entries (length lines) then all_of (map (entry_of sizes) (take sizes.entries lines)) else None
 
+-- the block of the lines behind the size line
 abbrev pub block_after_sizes : List (List ℕ) → Sizes → Option Block
 block_after_sizes lines sizes = option_and_then (block_of_entries sizes) (entries_in sizes lines)
 

@@ -4,6 +4,7 @@ use Rattle.dense_def.specs.Matrix.{Matrix}
 use Rattle.mm_text.specs.declared.market.Cell.{Cell}
 use Rattle.mm_text.specs.declared.market.Entry.{Entry}
 
+-- whether a number is 0
 abbrev pub is_zero : ℤ → Bool
 is_zero (pos n) = n == 0
 is_zero (negsuc n) = false
@@ -28,5 +29,6 @@ cells_of m = cells_of_rows 1 m.rows
 abbrev pub cell_of : Entry → Cell
 cell_of e = record { row = e.row; column = e.column; value = e.value }
 
+-- entries as cells
 abbrev pub entry_cells : List Entry → List Cell
 entry_cells entries = map cell_of entries
