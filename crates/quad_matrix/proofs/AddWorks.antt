@@ -1,0 +1,131 @@
+-- The work of a sum and of a trace adds up.
+use Rattle.std.proofs.Common.{◌≡◌, ℕ, suc, ◌+◌, Bool, true, false, cond, not, ◌&&◌, ◌||◌, List, [], ◌∷◌, ◌++◌, sum, refl, sym, ap, ap₂, ◌∙◌, arith, ⊎_elim}
+use Rattle.std.proofs.lemmas.Bool.{cases_Bool, or_parts, true≢false}
+use Rattle.std.proofs.lemmas.List.Sums.{sum_by-append}
+use Rattle.task_types.specs.Tree.{Tree, Root, is_there, tree_at, child}
+use Rattle.task_types.specs.Presence.{Absent, presence_of}
+use Rattle.quad_matrix.specs.declared.chunk.MatChunk.{MatChunk}
+use Rattle.quad_matrix.specs.declared.kind.What.TheVariants.{Add, Join, Trace, AddNum}
+use Rattle.quad_matrix.specs.Goals.{kind_of}
+use Rattle.quad_matrix.specs.Plans.{Draft, no_draft, with_either, are_null, ended, Joined, Single, planned_shape, term_on, with_pair}
+use Rattle.quad_matrix.specs.Works.{asked, work_of, add_work, trace_work, pair_works}
+use Rattle.quad_matrix.specs.declared.plan.Term.{Term}
+use Rattle.task_types.specs.declared.outcome.Place.TheVariants.{Child}
+use Rattle.quad_matrix.proofs.Sides.{suc-sub_one}
+use Rattle.quad_matrix.proofs.DraftWorks.{total, draft_work, either_work, either_null, ended_work}
+
+-- no part is there where none of four is
+null_any : (a b c d : Bool) → ((((true && not a) && not b) && not c) && not d) ≡ not (a || b || c || d)
+null_any true b c d = refl
+null_any false true c d = refl
+null_any false false true d = refl
+null_any false false false true = refl
+null_any false false false false = refl
+
+-- where none of two is there nothing is asked for both
+asked_none : (a b : Bool) (work : ℕ) → (a || b) ≡ false → sum (asked (a && b) work) ≡ 0
+asked_none false b work e = refl
+asked_none true b work e = absurd (true≢false e)
+
+-- the sum of two lists joined
+sum-append : (k l : List ℕ) → sum (k ++ l) ≡ sum k + sum l
+sum-append k l = sum_by-append (λ x. x) k l
+
+-- the sum of five
+pub sum_of_five : (k l m n o : List ℕ) → sum (k ++ l ++ m ++ n ++ o) ≡ sum k + sum l + sum m + sum n + sum o
+sum_of_five k l m n o =
+    sum-append (k ++ l ++ m ++ n) o
+    ∙ ap (λ x. x + sum o) (sum-append (k ++ l ++ m) n
+    ∙ ap (λ x. x + sum n) (sum-append (k ++ l) m
+    ∙ ap (λ x. x + sum m) (sum-append k l)))
+
+-- the four parts of a sum, where children of two inputs are there or not
+abbrev parts_of : ℕ → Bool → Bool → Bool → Bool → Bool → Bool → Bool → Bool → Draft
+parts_of low a b c d p q r s =
+    with_either low (with_either low (with_either low (with_either low no_draft Add 0 a p) Add 1 b q) Add 2 c r) Add 3 d s
+
+module _ (trees chunks : List (Tree MatChunk)) (low : ℕ) where
+  -- the work of the sum of two children
+  abbrev child_work : ℕ → ℕ
+  child_work q = work_of (kind_of Add low) (child (tree_at trees 0) q ∷ child (tree_at trees 1) q ∷ [])
+
+  parts_work : (a b c d p q r s : Bool) → draft_work trees chunks (parts_of low a b c d p q r s) ≡ sum (asked (a && p) (child_work 0)) + sum (asked (b && q) (child_work 1)) + sum (asked (c && r) (child_work 2)) + sum (asked (d && s) (child_work 3))
+  parts_work a b c d p q r s =
+      let d1 = with_either low no_draft Add 0 a p in
+      let d2 = with_either low d1 Add 1 b q in
+      let d3 = with_either low d2 Add 2 c r in
+      omega (arith, either_work trees chunks low no_draft Add 0 a p, either_work trees chunks low d1 Add 1 b q, either_work trees chunks low d2 Add 2 c r, either_work trees chunks low d3 Add 3 d s)
+
+  parts_null : (a b c d p q r s : Bool) → are_null (parts_of low a b c d p q r s).places ≡ not ((a || p) || (b || q) || (c || r) || (d || s))
+  parts_null a b c d p q r s =
+      let d1 = with_either low no_draft Add 0 a p in
+      let d2 = with_either low d1 Add 1 b q in
+      let d3 = with_either low d2 Add 2 c r in
+      either_null low d3 Add 3 d s
+      ∙ ap (λ t. t && not (d || s)) (either_null low d2 Add 2 c r
+      ∙ ap (λ t. t && not (c || r)) (either_null low d1 Add 1 b q
+      ∙ ap (λ t. t && not (b || q)) (either_null low no_draft Add 0 a p)))
+      ∙ null_any (a || p) (b || q) (c || r) (d || s)
+
+  -- the works of the four parts and of their join
+  add_total : (height : ℕ) (a b c d p q r s : Bool) → total trees chunks (ended height (Joined Join) (parts_of low a b c d p q r s)) ≡ sum (asked (a && p) (child_work 0) ++ asked (b && q) (child_work 1) ++ asked (c && r) (child_work 2) ++ asked (d && s) (child_work 3) ++ asked ((a || p) || (b || q) || (c || r) || (d || s)) 1)
+  add_total height a b c d p q r s =
+      let any = (a || p) || (b || q) || (c || r) || (d || s) in
+      let all = draft_work trees chunks (parts_of low a b c d p q r s) in
+      let sums = sum_of_five (asked (a && p) (child_work 0)) (asked (b && q) (child_work 1)) (asked (c && r) (child_work 2)) (asked (d && s) (child_work 3)) (asked any 1) in
+      let parts = parts_work a b c d p q r s in
+      ended_work trees chunks height (parts_of low a b c d p q r s)
+      ∙ ap (λ test. cond test 0 (all + 1)) (parts_null a b c d p q r s)
+      ∙ ⊎_elim
+      (λ (there : any ≡ true).
+      let one : sum (asked any 1) ≡ 1 = ap (λ test. sum (asked test 1)) there in
+      ap (λ test. cond (not test) 0 (all + 1)) there ∙ (let done : all + 1 ≡ sum (asked (a && p) (child_work 0)) + sum (asked (b && q) (child_work 1)) + sum (asked (c && r) (child_work 2)) + sum (asked (d && s) (child_work 3)) + sum (asked any 1) = omega arith in done) ∙ sym sums)
+      (λ (none : any ≡ false).
+      let zero_one : sum (asked any 1) ≡ 0 = ap (λ test. sum (asked test 1)) none in
+      let last = or_parts ((a || p) || (b || q) || (c || r)) (d || s) none in
+      let third = or_parts ((a || p) || (b || q)) (c || r) last.0 in
+      let first = or_parts (a || p) (b || q) third.0 in
+      ap (λ test. cond (not test) 0 (all + 1)) none
+      ∙ (let done : 0 ≡ sum (asked (a && p) (child_work 0)) + sum (asked (b && q) (child_work 1)) + sum (asked (c && r) (child_work 2)) + sum (asked (d && s) (child_work 3)) + sum (asked any 1) =
+      omega (arith, asked_none a p (child_work 0) first.0, asked_none b q (child_work 1) first.1, asked_none c r (child_work 2) third.1, asked_none d s (child_work 3) last.1) in
+      done)
+      ∙ sym sums)
+      (cases_Bool any)
+
+-- the work of a sum of two trees that are there is one more than the works of its tasks
+pub add_works : (h : ℕ) (k l : MatChunk) (a b c d p q r s : Tree MatChunk) (chunks : List (Tree MatChunk)) → add_work (suc h) (Root k a b c d) (Root l p q r s) ≡ 1 + total (Root k a b c d ∷ Root l p q r s ∷ []) chunks (planned_shape Add (suc h) (presence_of (Root k a b c d) ∷ presence_of (Root l p q r s) ∷ []) Absent)
+add_works h k l a b c d p q r s chunks =
+    let trees = Root k a b c d ∷ Root l p q r s ∷ [] in
+    ap (λ n. 1 + n)
+    (sym (ap (λ low. total trees chunks (ended (suc h) (Joined Join) (parts_of low (is_there a) (is_there b) (is_there c) (is_there d) (is_there p) (is_there q) (is_there r) (is_there s)))) (suc-sub_one h)
+    ∙ add_total trees chunks h (suc h) (is_there a) (is_there b) (is_there c) (is_there d) (is_there p) (is_there q) (is_there r) (is_there s)))
+
+-- ---- Traces
+
+-- a test and true
+and-true : (b : Bool) → (b && true) ≡ b
+and-true true = refl
+and-true false = refl
+
+-- the traces of the diagonal children
+abbrev upper_term : Term
+upper_term = term_on Trace (Child 0 0 ∷ [])
+
+abbrev lower_term : Term
+lower_term = term_on Trace (Child 0 3 ∷ [])
+
+-- the works of the one part of a trace
+trace_total : (trees chunks : List (Tree MatChunk)) (low height : ℕ) (a d : Bool) → total trees chunks (ended height Single (with_pair low no_draft upper_term lower_term AddNum a d)) ≡ sum (pair_works a d (work_of (kind_of Trace low) (child (tree_at trees 0) 0 ∷ [])) (work_of (kind_of Trace low) (child (tree_at trees 0) 3 ∷ [])))
+trace_total trees chunks low height false false = refl
+trace_total trees chunks low height true false = refl
+trace_total trees chunks low height false true = refl
+trace_total trees chunks low height true true = refl
+
+-- the work of a trace of a tree that is there is one more than the works of its tasks
+pub trace_works : (h : ℕ) (k : MatChunk) (a b c d : Tree MatChunk) (chunks : List (Tree MatChunk)) → trace_work (suc h) (Root k a b c d) ≡ 1 + total (Root k a b c d ∷ []) chunks (planned_shape Trace (suc h) (presence_of (Root k a b c d) ∷ []) Absent)
+trace_works h k a b c d chunks =
+    let trees = Root k a b c d ∷ [] in
+    ap (λ n. 1 + n)
+    (sym (ap (λ low. total trees chunks (ended (suc h) Single (with_pair low no_draft upper_term lower_term AddNum (is_there a && true) (is_there d && true)))) (suc-sub_one h)
+    ∙ ap₂ (λ u v. total trees chunks (ended (suc h) Single (with_pair h no_draft upper_term lower_term AddNum u v))) (and-true (is_there a)) (and-true (is_there d))
+    ∙ trace_total trees chunks h (suc h) (is_there a) (is_there d)))

@@ -1,0 +1,74 @@
+-- Goals at any side of the leaves.
+use Rattle.std.proofs.Common.{◌≡◌, ℕ, zero, suc, List, [], ◌∷◌, refl, sym, ap, ◌∙◌, arith, ⊎_elim}
+use Rattle.std.specs.List.{AllByRecursion}
+use Rattle.task_types.specs.Tree.{Tree, Nothing, Root}
+use Rattle.quad_matrix.specs.declared.chunk.MatChunk.{MatChunk}
+use Rattle.quad_matrix.specs.declared.kind.What.{What}
+use Rattle.quad_matrix.specs.declared.kind.What.TheVariants.{Assign, Add, Join, Trace, AddNum}
+use Rattle.quad_matrix.specs.Spots.{side_of}
+use Rattle.quad_matrix.specs.Blocks.{leaf_in, block_of, IsCanonical}
+use Rattle.quad_matrix.specs.Goals.{kind_of, goal_at, goal_of, FitsAt}
+use Rattle.quad_matrix.proofs.Canonical.{canonical_zero, peak-zeros}
+use Rattle.quad_matrix.proofs.Quadrants.{join_nothing}
+use Rattle.quad_matrix.proofs.Leaves.{leaf_in_canonical, leaf_of_list}
+use Rattle.quad_matrix.proofs.Sums.{add_nothing, join_goal, join_fits}
+use Rattle.quad_matrix.proofs.Numbers.{trace_of_nothing}
+
+-- the goal of an assignment of nothing is nothing
+pub assign_nothing : (b h : ℕ) → goal_at b Assign h (Nothing ∷ []) ≡ Nothing
+assign_nothing b h = canonical_zero b h (block_of b h Nothing) (peak-zeros (side_of b h) (side_of b h))
+
+-- and so is that of a join
+pub join_goal_nothing : (b h : ℕ) → goal_at b Join (suc h) (Nothing ∷ Nothing ∷ Nothing ∷ Nothing ∷ []) ≡ Nothing
+join_goal_nothing b h =
+    join_goal b h Nothing Nothing Nothing Nothing ∙ join_nothing b h Nothing Nothing Nothing Nothing refl
+
+-- a goal that is nothing on nothing is one on canonical trees of another side
+at_leaf : (b h : ℕ) (what : What) (height : ℕ) (trees : List (Tree MatChunk)) → AllByRecursion (IsCanonical b h) trees → ((c : ℕ) → AllByRecursion (λ (t : Tree MatChunk). t ≡ Nothing) trees → goal_at c what height trees ≡ Nothing) → goal_of (kind_of what height) trees ≡ goal_at b what height trees
+at_leaf b h what height trees all nothing =
+    ⊎_elim (λ (e : leaf_in trees ≡ b). ap (λ c. goal_at c what height trees) e)
+    (λ (none : AllByRecursion (λ (t : Tree MatChunk). t ≡ Nothing) trees). nothing (leaf_in trees) none ∙ sym (nothing b none))
+    (leaf_in_canonical b h trees all)
+
+-- the goal of a join at another side
+join_any : (b h : ℕ) (x y z w : Tree MatChunk) → IsCanonical b h x → IsCanonical b h y → IsCanonical b h z → IsCanonical b h w → goal_of (kind_of Join (suc h)) (x ∷ y ∷ z ∷ w ∷ []) ≡ goal_at b Join (suc h) (x ∷ y ∷ z ∷ w ∷ [])
+join_any b h x y z w ix iy iz iw =
+    at_leaf b h Join (suc h) (x ∷ y ∷ z ∷ w ∷ []) (ix, (iy, (iz, (iw, tt))))
+    (λ c none. rw (none.0, none.1.0, none.1.1.0, none.1.1.1.0) (join_goal_nothing c h))
+
+-- the goal of a sum at another side
+add_any : (b h : ℕ) (x y : Tree MatChunk) → IsCanonical b h x → IsCanonical b h y → goal_of (kind_of Add h) (x ∷ y ∷ []) ≡ goal_at b Add h (x ∷ y ∷ [])
+add_any b h x y ix iy =
+    at_leaf b h Add h (x ∷ y ∷ []) (ix, (iy, tt)) (λ c none. rw (none.0, none.1.0) (add_nothing c h))
+
+-- the goal of a trace at another side
+trace_any : (b h : ℕ) (x : Tree MatChunk) → IsCanonical b h x → goal_of (kind_of Trace h) (x ∷ []) ≡ goal_at b Trace h (x ∷ [])
+trace_any b h x ix = at_leaf b h Trace h (x ∷ []) (ix, tt) (λ c none. rw none.0 (trace_of_nothing c h))
+
+-- the goal of a kind that fits at some side of the leaves is the goal at that side
+pub goal_any : (b : ℕ) (what : What) (h : ℕ) (trees : List (Tree MatChunk)) → FitsAt b what h trees → goal_of (kind_of what h) trees ≡ goal_at b what h trees
+goal_any b Assign h (Nothing ∷ []) fits = assign_nothing (leaf_in (Nothing ∷ [])) h ∙ sym (assign_nothing b h)
+goal_any b Assign h (Root c s t u v ∷ []) fits =
+    ap (λ k. goal_at k Assign h (Root c s t u v ∷ []))
+    (let one = leaf_of_list b h (Root c s t u v) fits refl in omega arith)
+goal_any b Assign h [] fits = absurd fits
+goal_any b Assign h (x ∷ y ∷ trees) fits = absurd fits
+goal_any b Add h (x ∷ y ∷ []) fits = add_any b h x y fits.0 fits.1
+goal_any b Add h [] fits = absurd fits
+goal_any b Add h (x ∷ []) fits = absurd fits
+goal_any b Add h (x ∷ y ∷ z ∷ trees) fits = absurd fits
+goal_any b Join (suc h) (x ∷ y ∷ z ∷ w ∷ []) fits =
+    let low = join_fits b h x y z w fits in join_any b h x y z w low.0 low.1 low.2 low.3
+goal_any b Join zero (x ∷ y ∷ z ∷ w ∷ []) fits = absurd (omega (arith, fits.0))
+goal_any b Join h [] fits = absurd fits
+goal_any b Join h (x ∷ []) fits = absurd fits
+goal_any b Join h (x ∷ y ∷ []) fits = absurd fits
+goal_any b Join h (x ∷ y ∷ z ∷ []) fits = absurd fits
+goal_any b Join h (x ∷ y ∷ z ∷ w ∷ t ∷ trees) fits = absurd fits
+goal_any b Trace h (x ∷ []) fits = trace_any b h x fits.0
+goal_any b Trace h [] fits = absurd fits
+goal_any b Trace h (x ∷ y ∷ trees) fits = absurd fits
+goal_any b AddNum h (x ∷ y ∷ []) fits = refl
+goal_any b AddNum h [] fits = absurd fits
+goal_any b AddNum h (x ∷ []) fits = absurd fits
+goal_any b AddNum h (x ∷ y ∷ z ∷ trees) fits = absurd fits

@@ -1,0 +1,71 @@
+-- The tasks of an assignment whose entries lie in some quadrants.
+use Rattle.std.proofs.Common.{◌≡◌, ℕ, ◌+◌, Bool, true, false, cond, ◌||◌, List, [], ◌∷◌, ◌++◌, length, refl}
+use Rattle.task_types.specs.Tree.{Tree, Nothing, tree_at}
+use Rattle.task_types.specs.Places.{Shape}
+use Rattle.task_types.specs.Reading.{Call, reading, goals_of}
+use Rattle.task_types.specs.Shown.{bit}
+use Rattle.quad_matrix.specs.declared.chunk.MatChunk.{MatChunk}
+use Rattle.quad_matrix.specs.declared.kind.What.TheVariants.{Assign, Join}
+use Rattle.quad_matrix.specs.declared.kind.MatKind.{MatKind}
+use Rattle.quad_matrix.specs.Goals.{kind_of, goal_of}
+use Rattle.quad_matrix.specs.Plans.{no_draft, with_portion, ended, Joined}
+use Rattle.quad_matrix.specs.Works.{asked}
+use Rattle.quad_matrix.proofs.DraftWorks.{calls_of}
+
+-- the shape where entries lie in some quadrants
+abbrev pub assign_shape : ℕ → ℕ → Bool → Bool → Bool → Bool → Shape MatKind
+assign_shape low height a b c d =
+    ended height (Joined Join)
+    (with_portion low (with_portion low (with_portion low (with_portion low no_draft Assign a) Assign b) Assign c) Assign d)
+
+-- the tree of a part: the goal of an assignment of its entries, or nothing
+abbrev pub part_tree : ℕ → Bool → Tree MatChunk → Tree MatChunk
+part_tree low a tree = cond a (goal_of (kind_of Assign low) (tree ∷ [])) Nothing
+
+-- the call of a part
+abbrev pub part_call : ℕ → Tree MatChunk → Call MatChunk MatKind
+part_call low tree = record { kind = kind_of Assign low; inputs = tree ∷ [] }
+
+-- the trees of the four parts
+abbrev pub part_trees : List (Tree MatChunk) → ℕ → Bool → Bool → Bool → Bool → List (Tree MatChunk)
+part_trees chunks low a b c d =
+    part_tree low a (tree_at chunks 0) ∷ part_tree low b (tree_at chunks (bit a))
+    ∷ part_tree low c (tree_at chunks (bit a + bit b)) ∷ part_tree low d (tree_at chunks (bit a + bit b + bit c))
+    ∷ []
+
+-- the call that joins them
+abbrev pub join_call : List (Tree MatChunk) → ℕ → ℕ → Bool → Bool → Bool → Bool → Call MatChunk MatKind
+join_call chunks low height a b c d = record { kind = kind_of Join height; inputs = part_trees chunks low a b c d }
+
+-- the tree that the result of a shape names
+abbrev pub result_in : List (Tree MatChunk) → List (Tree MatChunk) → Shape MatKind → Tree MatChunk
+result_in trees chunks shape = reading trees chunks (goals_of goal_of (calls_of trees chunks shape.tasks)) shape.result
+
+-- the calls, the result and the number of chunks of such a shape
+pub record AreParts (trees chunks : List (Tree MatChunk)) (low height : ℕ) (a b c d : Bool) : Type 0 where
+  pub calls : calls_of trees chunks (assign_shape low height a b c d).tasks
+      ≡ asked a (part_call low (tree_at chunks 0)) ++ asked b (part_call low (tree_at chunks (bit a)))
+      ++ asked c (part_call low (tree_at chunks (bit a + bit b))) ++ asked d (part_call low (tree_at chunks (bit a + bit b + bit c)))
+      ++ asked (a || b || c || d) (join_call chunks low height a b c d)
+  pub result : result_in trees chunks (assign_shape low height a b c d)
+      ≡ cond (a || b || c || d) (goal_of (kind_of Join height) (part_trees chunks low a b c d)) Nothing
+  pub count : length (assign_shape low height a b c d).chunks ≡ bit a + bit b + bit c + bit d
+
+-- whichever quadrants they are
+pub assign_parts : (trees chunks : List (Tree MatChunk)) (low height : ℕ) (a b c d : Bool) → AreParts trees chunks low height a b c d
+assign_parts trees chunks low height false false false false = record { calls = refl; result = refl; count = refl }
+assign_parts trees chunks low height false false false true = record { calls = refl; result = refl; count = refl }
+assign_parts trees chunks low height false false true false = record { calls = refl; result = refl; count = refl }
+assign_parts trees chunks low height false false true true = record { calls = refl; result = refl; count = refl }
+assign_parts trees chunks low height false true false false = record { calls = refl; result = refl; count = refl }
+assign_parts trees chunks low height false true false true = record { calls = refl; result = refl; count = refl }
+assign_parts trees chunks low height false true true false = record { calls = refl; result = refl; count = refl }
+assign_parts trees chunks low height false true true true = record { calls = refl; result = refl; count = refl }
+assign_parts trees chunks low height true false false false = record { calls = refl; result = refl; count = refl }
+assign_parts trees chunks low height true false false true = record { calls = refl; result = refl; count = refl }
+assign_parts trees chunks low height true false true false = record { calls = refl; result = refl; count = refl }
+assign_parts trees chunks low height true false true true = record { calls = refl; result = refl; count = refl }
+assign_parts trees chunks low height true true false false = record { calls = refl; result = refl; count = refl }
+assign_parts trees chunks low height true true false true = record { calls = refl; result = refl; count = refl }
+assign_parts trees chunks low height true true true false = record { calls = refl; result = refl; count = refl }
+assign_parts trees chunks low height true true true true = record { calls = refl; result = refl; count = refl }

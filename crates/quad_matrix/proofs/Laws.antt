@@ -1,0 +1,224 @@
+-- The laws that the library of matrices keeps.
+use Rattle.std.proofs.Common.{◌≡◌, ℕ, zero, suc, ◌+◌, ◌≤◌, Bool, false, cond, not, ◌&&◌, ◌==◌, ◌<◌, List, [], ◌∷◌, ◌++◌, length, map, sum, inl, inr, refl, sym, ap, ◌∙◌, lit≤, eq-eqb}
+use Rattle.std.proofs.lemmas.Bool.{cond_both}
+use Rattle.dense_def.specs.Matrix.{block, zeros, peak_of}
+use Rattle.dense_def.proofs.Blocks.{height-block, entry-block}
+use Rattle.dense_def.proofs.Peaks.{peak-zero}
+use Rattle.dense_def.proofs.Zeros.{entry-zeros}
+use Rattle.task_types.specs.declared.outcome.Place.TheVariants.{Null, Input, Chunk}
+use Rattle.task_types.specs.declared.outcome.Outcome.{Outcome}
+use Rattle.task_types.specs.Tree.{Tree, Nothing, Root}
+use Rattle.task_types.specs.Presence.{Presence, Absent, presence_of, has_child, all_present}
+use Rattle.task_types.specs.Places.{Shape, shape_of, filled, shape_from, IsOneOf}
+use Rattle.task_types.specs.Reading.{new_trees}
+use Rattle.task_types.specs.Sound.{IsSound, HasFewInputs, AddsUp, new_work}
+use Rattle.quad_matrix.specs.declared.chunk.MatChunk.{MatChunk}
+use Rattle.quad_matrix.specs.declared.kind.What.{What}
+use Rattle.quad_matrix.specs.declared.kind.What.TheVariants.{Assign, Add, Join, Trace, AddNum}
+use Rattle.quad_matrix.specs.declared.kind.MatKind.{MatKind}
+use Rattle.quad_matrix.specs.Chunks.{arity_of}
+use Rattle.quad_matrix.specs.Spots.{side_of}
+use Rattle.quad_matrix.specs.Blocks.{block_of, upper_left, upper_right, lower_left, lower_right}
+use Rattle.quad_matrix.specs.Goals.{kind_of, FitsAt, IsList}
+use Rattle.quad_matrix.specs.Plans.{planned_shape, choices, given_shape, joined_shape, join_places, are_null, chunk_shape, null_shape, shapes_of, full_shapes, inputs_of, may_have}
+use Rattle.quad_matrix.specs.Works.{asked, has_number, assign_work, add_work, trace_work, work_at}
+use Rattle.quad_matrix.specs.Matrices.{matrices}
+use Rattle.quad_matrix.proofs.Sides.{suc-sub_one}
+use Rattle.quad_matrix.proofs.Canonical.{peak-zeros}
+use Rattle.quad_matrix.proofs.Leaves.{leaf_of_list}
+use Rattle.quad_matrix.proofs.DraftWorks.{total, one_of_cond, one_of_one, one_of_same, one_of_choices}
+use Rattle.quad_matrix.proofs.AddWorks.{add_works, trace_works}
+use Rattle.quad_matrix.proofs.AssignParts.{assign_shape}
+use Rattle.quad_matrix.proofs.AssignWorks.{assign_work_is}
+
+-- goals are defined for at most four inputs
+few_trees : (b : ℕ) (what : What) (h : ℕ) (trees : List (Tree MatChunk)) → FitsAt b what h trees → length trees ≤ 4
+few_trees b Assign h (x ∷ []) fits = lit≤ tt
+few_trees b Assign h [] fits = absurd fits
+few_trees b Assign h (x ∷ y ∷ trees) fits = absurd fits
+few_trees b Add h (x ∷ y ∷ []) fits = lit≤ tt
+few_trees b Add h [] fits = absurd fits
+few_trees b Add h (x ∷ []) fits = absurd fits
+few_trees b Add h (x ∷ y ∷ z ∷ trees) fits = absurd fits
+few_trees b Join h (x ∷ y ∷ z ∷ w ∷ []) fits = lit≤ tt
+few_trees b Join h [] fits = absurd fits
+few_trees b Join h (x ∷ []) fits = absurd fits
+few_trees b Join h (x ∷ y ∷ []) fits = absurd fits
+few_trees b Join h (x ∷ y ∷ z ∷ []) fits = absurd fits
+few_trees b Join h (x ∷ y ∷ z ∷ w ∷ t ∷ trees) fits = absurd fits
+few_trees b Trace h (x ∷ []) fits = lit≤ tt
+few_trees b Trace h [] fits = absurd fits
+few_trees b Trace h (x ∷ y ∷ trees) fits = absurd fits
+few_trees b AddNum h (x ∷ y ∷ []) fits = lit≤ tt
+few_trees b AddNum h [] fits = absurd fits
+few_trees b AddNum h (x ∷ []) fits = absurd fits
+few_trees b AddNum h (x ∷ y ∷ z ∷ trees) fits = absurd fits
+
+-- so each kind has few inputs
+pub few_matrices : HasFewInputs matrices
+few_matrices = λ kind trees d. few_trees d.leaf kind.what kind.height trees d.fits
+
+-- ---- Works without new tasks
+
+-- what is not asked for has no work
+sum_none : (k l m n o : ℕ) (p q r s t : Bool) → p ≡ false → q ≡ false → r ≡ false → s ≡ false → t ≡ false → sum (asked p k ++ asked q l ++ asked r m ++ asked s n ++ asked t o) ≡ 0
+sum_none k l m n o p q r s t ep eq er es et = rw (ep, eq, er, es, et) refl
+
+-- a part of zeros has no number
+zeros_part : (side top left half : ℕ) → has_number (block (zeros side side) top left half half) ≡ false
+zeros_part side top left half =
+    let m = block (zeros side side) top left half half in
+    let flat : peak_of m ≡ 0 =
+    (peak-zero m).0
+    (λ i j p q.
+    let l : i < half = rw height-block at p in
+    entry-block (zeros side side) top left half half i j l q ∙ entry-zeros side side (top + i) (left + j)) in
+    ap not (eq-eqb (peak_of m) 0 flat)
+
+-- the work of an assignment of nothing is 1
+assign_work_nothing : (b h : ℕ) → assign_work b h (zeros (side_of b h) (side_of b h)) ≡ 1
+assign_work_nothing b zero = refl
+assign_work_nothing b (suc h) =
+    let side = side_of b (suc h) in
+    let half = side_of b h in
+    ap (λ n. 1 + n)
+    (sum_none _ _ _ _ 1 (has_number (upper_left half (zeros side side))) (has_number (upper_right half (zeros side side))) (has_number (lower_left half (zeros side side))) (has_number (lower_right half (zeros side side))) (has_number (zeros side side))
+    (zeros_part side 0 0 half) (zeros_part side 0 half half) (zeros_part side half 0 half) (zeros_part side half half half)
+    (ap not (eq-eqb (peak_of (zeros side side)) 0 (peak-zeros side side))))
+
+-- the work of a sum with nothing is 1
+add_work_first : (h : ℕ) (y : Tree MatChunk) → add_work h Nothing y ≡ 1
+add_work_first zero y = refl
+add_work_first (suc h) y = refl
+
+add_work_second : (h : ℕ) (x : Tree MatChunk) → add_work h x Nothing ≡ 1
+add_work_second zero x = refl
+add_work_second (suc h) Nothing = refl
+add_work_second (suc h) (Root c x y z w) = refl
+
+-- and so is that of a trace of nothing
+trace_work_nothing : (h : ℕ) → trace_work h Nothing ≡ 1
+trace_work_nothing zero = refl
+trace_work_nothing (suc h) = refl
+
+-- a join asks no tasks
+joined_total : (trees chunks : List (Tree MatChunk)) (known : List Presence) → total trees chunks (joined_shape known) ≡ 0
+joined_total trees chunks known =
+    cond_both (are_null (join_places known)) (given_shape Null) (shape_from (filled (join_places known) ∷ []) [] (Chunk 0)) (λ shape. total trees chunks shape ≡ 0) (λ e. refl) (λ e. refl)
+
+-- ---- The shape of an outcome
+
+-- the shapes of a kind with as many inputs as it has
+abbrev allowed : What → ℕ → List Presence → List (Shape MatKind)
+allowed what h known = cond (all_present known) (full_shapes what h known) (null_shape what known ∷ [])
+
+-- a shape of the plan is one of them
+in_plan : (what : What) (h : ℕ) (known : List Presence) (shape : Shape MatKind) → IsOneOf shape (shapes_of (kind_of what h) known) → IsOneOf shape (allowed what h known)
+in_plan what h known shape e = one_of_cond ((length known == inputs_of what) && may_have what h) shape (allowed what h known) e
+
+-- an outcome of an input that is null, or of height 0, asks no tasks
+no_tasks : (trees chunks : List (Tree MatChunk)) (shape other : Shape MatKind) → total trees chunks other ≡ 0 → shape ≡ other → 1 ≡ 1 + total trees chunks shape
+no_tasks trees chunks shape other none same =
+    sym (ap (λ n. 1 + n) (ap (total trees chunks) same ∙ none))
+
+low_tasks : (trees chunks : List (Tree MatChunk)) (shape : Shape MatKind) → IsOneOf shape (given_shape Null ∷ chunk_shape ∷ []) → 1 ≡ 1 + total trees chunks shape
+low_tasks trees chunks shape (inl e) = no_tasks trees chunks shape (given_shape Null) refl e
+low_tasks trees chunks shape (inr (inl e)) = no_tasks trees chunks shape chunk_shape refl e
+low_tasks trees chunks shape (inr (inr e)) = absurd e
+
+-- ---- The works of all kinds
+
+-- the work of an assignment
+assign_adds_up : (b h : ℕ) (x : Tree MatChunk) (outcome : Outcome MatChunk MatKind) → IsList b h x → IsSound arity_of matrices (kind_of Assign h) (x ∷ []) outcome → work_at Assign h (x ∷ []) ≡ 1 + new_work matrices (x ∷ []) outcome
+assign_adds_up b h Nothing outcome list sound =
+    assign_work_nothing 0 h
+    ∙ no_tasks (Nothing ∷ []) (new_trees (Nothing ∷ []) outcome) (shape_of outcome) (given_shape Null) refl
+    (one_of_one (shape_of outcome) (given_shape Null) (in_plan Assign h (presence_of {C = MatChunk} Nothing ∷ []) (shape_of outcome) sound.planned))
+assign_adds_up b zero (Root k x y z w) outcome list sound =
+    low_tasks (Root k x y z w ∷ []) (new_trees (Root k x y z w ∷ []) outcome) (shape_of outcome)
+    (in_plan Assign 0 (presence_of (Root k x y z w) ∷ []) (shape_of outcome) sound.planned)
+assign_adds_up b (suc h) (Root k x y z w) outcome list sound =
+    let t = Root k x y z w in
+    let known = presence_of t ∷ [] in
+    let choice = one_of_choices (planned_shape Assign (suc h) known) (shape_of outcome) choices (in_plan Assign (suc h) known (shape_of outcome) sound.planned) in
+    let p = has_child choice.0 0 in
+    let q = has_child choice.0 1 in
+    let r = has_child choice.0 2 in
+    let s = has_child choice.0 3 in
+    let shape : shape_of outcome ≡ assign_shape h (suc h) p q r s = choice.1 ∙ ap (λ low. assign_shape low (suc h) p q r s) (suc-sub_one h) in
+    ap (λ c. assign_work c (suc h) (block_of c (suc h) t)) (leaf_of_list b (suc h) t list refl)
+    ∙ assign_work_is b h k x y z w list outcome sound p q r s shape
+
+-- a shape that equals another has its works
+same_work : (trees chunks : List (Tree MatChunk)) (shape other : Shape MatKind) (work : ℕ) → work ≡ 1 + total trees chunks other → shape ≡ other → work ≡ 1 + total trees chunks shape
+same_work trees chunks shape other work is same = is ∙ ap (λ s. 1 + total trees chunks s) (sym same)
+
+-- the works of the other kinds, by the shape alone
+works_at : (b : ℕ) (what : What) (h : ℕ) (trees chunks : List (Tree MatChunk)) (shape : Shape MatKind) → FitsAt b what h trees → (what ≡ Assign → ⊥) → IsOneOf shape (allowed what h (map presence_of trees)) → work_at what h trees ≡ 1 + total trees chunks shape
+works_at b Assign h trees chunks shape fits other e = absurd (other refl)
+works_at b Add h (Nothing ∷ Nothing ∷ []) chunks shape fits other e =
+    add_work_first h Nothing ∙ no_tasks (Nothing ∷ Nothing ∷ []) chunks shape (given_shape Null) refl (one_of_one shape (given_shape Null) e)
+works_at b Add h (Nothing ∷ Root k x y z w ∷ []) chunks shape fits other e =
+    add_work_first h (Root k x y z w)
+    ∙ no_tasks (Nothing ∷ Root k x y z w ∷ []) chunks shape (given_shape (Input 1)) refl (one_of_one shape (given_shape (Input 1)) e)
+works_at b Add h (Root k x y z w ∷ Nothing ∷ []) chunks shape fits other e =
+    add_work_second h (Root k x y z w)
+    ∙ no_tasks (Root k x y z w ∷ Nothing ∷ []) chunks shape (given_shape (Input 0)) refl (one_of_one shape (given_shape (Input 0)) e)
+works_at b Add zero (Root k x y z w ∷ Root l p q r s ∷ []) chunks shape fits other e =
+    low_tasks (Root k x y z w ∷ Root l p q r s ∷ []) chunks shape e
+works_at b Add (suc h) (Root k x y z w ∷ Root l p q r s ∷ []) chunks shape fits other e =
+    let known = presence_of (Root k x y z w) ∷ presence_of (Root l p q r s) ∷ [] in
+    same_work (Root k x y z w ∷ Root l p q r s ∷ []) chunks shape (planned_shape Add (suc h) known Absent) (add_work (suc h) (Root k x y z w) (Root l p q r s))
+    (add_works h k l x y z w p q r s chunks) (one_of_one shape (planned_shape Add (suc h) known Absent) e)
+works_at b Add h [] chunks shape fits other e = absurd fits
+works_at b Add h (x ∷ []) chunks shape fits other e = absurd fits
+works_at b Add h (x ∷ y ∷ z ∷ trees) chunks shape fits other e = absurd fits
+works_at b Join h (x ∷ y ∷ z ∷ w ∷ []) chunks shape fits other e =
+    let trees = x ∷ y ∷ z ∷ w ∷ [] in
+    let known = map presence_of trees in
+    no_tasks trees chunks shape (joined_shape known) (joined_total trees chunks known) (one_of_same (all_present known) shape (joined_shape known) e)
+works_at b Join h [] chunks shape fits other e = absurd fits
+works_at b Join h (x ∷ []) chunks shape fits other e = absurd fits
+works_at b Join h (x ∷ y ∷ []) chunks shape fits other e = absurd fits
+works_at b Join h (x ∷ y ∷ z ∷ []) chunks shape fits other e = absurd fits
+works_at b Join h (x ∷ y ∷ z ∷ w ∷ t ∷ trees) chunks shape fits other e = absurd fits
+works_at b Trace h (Nothing ∷ []) chunks shape fits other e =
+    trace_work_nothing h ∙ no_tasks (Nothing ∷ []) chunks shape (given_shape Null) refl (one_of_one shape (given_shape Null) e)
+works_at b Trace zero (Root k x y z w ∷ []) chunks shape fits other e = low_tasks (Root k x y z w ∷ []) chunks shape e
+works_at b Trace (suc h) (Root k x y z w ∷ []) chunks shape fits other e =
+    let known = presence_of (Root k x y z w) ∷ [] in
+    same_work (Root k x y z w ∷ []) chunks shape (planned_shape Trace (suc h) known Absent) (trace_work (suc h) (Root k x y z w))
+    (trace_works h k x y z w chunks) (one_of_one shape (planned_shape Trace (suc h) known Absent) e)
+works_at b Trace h [] chunks shape fits other e = absurd fits
+works_at b Trace h (x ∷ y ∷ trees) chunks shape fits other e = absurd fits
+works_at b AddNum h (Nothing ∷ Nothing ∷ []) chunks shape fits other e =
+    no_tasks (Nothing ∷ Nothing ∷ []) chunks shape (given_shape Null) refl (one_of_one shape (given_shape Null) e)
+works_at b AddNum h (Nothing ∷ Root k x y z w ∷ []) chunks shape fits other e =
+    no_tasks (Nothing ∷ Root k x y z w ∷ []) chunks shape (given_shape (Input 1)) refl (one_of_one shape (given_shape (Input 1)) e)
+works_at b AddNum h (Root k x y z w ∷ Nothing ∷ []) chunks shape fits other e =
+    no_tasks (Root k x y z w ∷ Nothing ∷ []) chunks shape (given_shape (Input 0)) refl (one_of_one shape (given_shape (Input 0)) e)
+works_at b AddNum zero (Root k x y z w ∷ Root l p q r s ∷ []) chunks shape fits other e =
+    low_tasks (Root k x y z w ∷ Root l p q r s ∷ []) chunks shape e
+works_at b AddNum (suc h) (Root k x y z w ∷ Root l p q r s ∷ []) chunks shape fits other e = absurd e
+works_at b AddNum h [] chunks shape fits other e = absurd fits
+works_at b AddNum h (x ∷ []) chunks shape fits other e = absurd fits
+works_at b AddNum h (x ∷ y ∷ z ∷ trees) chunks shape fits other e = absurd fits
+
+-- the work of a kind
+kind_adds_up : (b : ℕ) (what : What) (h : ℕ) (trees : List (Tree MatChunk)) (outcome : Outcome MatChunk MatKind) → FitsAt b what h trees → IsSound arity_of matrices (kind_of what h) trees outcome → work_at what h trees ≡ 1 + new_work matrices trees outcome
+kind_adds_up b Assign h (x ∷ []) outcome fits sound = assign_adds_up b h x outcome fits sound
+kind_adds_up b Assign h [] outcome fits sound = absurd fits
+kind_adds_up b Assign h (x ∷ y ∷ trees) outcome fits sound = absurd fits
+kind_adds_up b Add h trees outcome fits sound =
+    works_at b Add h trees (new_trees trees outcome) (shape_of outcome) fits (λ e. cc) (in_plan Add h (map presence_of trees) (shape_of outcome) sound.planned)
+kind_adds_up b Join h trees outcome fits sound =
+    works_at b Join h trees (new_trees trees outcome) (shape_of outcome) fits (λ e. cc) (in_plan Join h (map presence_of trees) (shape_of outcome) sound.planned)
+kind_adds_up b Trace h trees outcome fits sound =
+    works_at b Trace h trees (new_trees trees outcome) (shape_of outcome) fits (λ e. cc) (in_plan Trace h (map presence_of trees) (shape_of outcome) sound.planned)
+kind_adds_up b AddNum h trees outcome fits sound =
+    works_at b AddNum h trees (new_trees trees outcome) (shape_of outcome) fits (λ e. cc) (in_plan AddNum h (map presence_of trees) (shape_of outcome) sound.planned)
+
+-- at each sound outcome the work of a kind is one more than those of the new tasks
+pub matrix_works_add_up : AddsUp arity_of matrices
+matrix_works_add_up =
+    λ kind trees outcome d sound. kind_adds_up d.leaf kind.what kind.height trees outcome d.fits sound

@@ -1,0 +1,105 @@
+-- The side of the leaves of trees.
+use Rattle.std.proofs.Common.{◌≡◌, ℕ, zero, suc, ◌<◌, ◌≤◌, max, true, ◌==◌, unsigned_abs, refl, sym, ap, ◌∙◌, arith, ⊎_elim, pos_of_ne-zero, le_of_eq, ◌⊎◌, inl, inr, List, [], ◌∷◌}
+use Rattle.std.specs.List.{AllByRecursion}
+use Rattle.std.proofs.lemmas.Bool.{cases_eq, cases_lt, true≢false, cond_both}
+use Rattle.dense_def.specs.Matrix.{Matrix, height, IsMatrix, joined, peak_of}
+use Rattle.dense_def.proofs.Blocks.{height-block, IsMatrix-block, joined-block}
+use Rattle.dense_def.proofs.Peaks.{peak-joined}
+use Rattle.task_types.specs.Tree.{Tree, Nothing, Root, is_there}
+use Rattle.quad_matrix.specs.declared.chunk.MatChunk.{MatChunk}
+use Rattle.quad_matrix.specs.declared.chunk.MatChunk.TheVariants.{Leaf, Node, Entries, Num}
+use Rattle.quad_matrix.specs.Spots.{side_of}
+use Rattle.quad_matrix.specs.Blocks.{block_of, number_of, alone, canonical, IsCanonical, IsNumber, leaf_of, leaf_in, upper_left, upper_right, lower_left, lower_right}
+use Rattle.quad_matrix.specs.Goals.{IsList}
+use Rattle.quad_matrix.proofs.Sides.{side_low, side_twice}
+use Rattle.quad_matrix.proofs.Canonical.{canonical_zero, canonical_leaf, canonical_node}
+use Rattle.quad_matrix.proofs.Roots.{root_some}
+
+-- where the peak of a quadrant is 0 it has no leaves, else leaves of side b
+record Tells (b peak leaf : ℕ) : Type 0 where
+  most : leaf ≤ b
+  some : leaf < b → peak ≡ 0
+
+-- what four quadrants tell
+greatest_tells : (b p q r s k l m n : ℕ) → Tells b p k → Tells b q l → Tells b r m → Tells b s n → 0 < max (max p q) (max r s) → max (max k l) (max m n) ≡ b
+greatest_tells b p q r s k l m n one two three four some =
+    let most : max (max k l) (max m n) ≤ b = omega arith in
+    ⊎_elim
+    (λ (low : max (max k l) (max m n) < b). absurd (omega arith))
+    (λ (high : b ≤ max (max k l) (max m n)). omega arith)
+    (cases_lt (max (max k l) (max m n)) b)
+
+-- what a canonical tree tells, where its leaves are known for a block other than zero
+tells : (b h : ℕ) (m : Matrix) → ((peak_of m ≡ 0 → ⊥) → leaf_of (canonical b h m) ≡ b) → Tells b (peak_of m) (leaf_of (canonical b h m))
+tells b h m leaf =
+    ⊎_elim
+    (λ (flat : peak_of m ≡ 0).
+    let none : leaf_of (canonical b h m) ≡ 0 = ap leaf_of (canonical_zero b h m flat) in
+    record { most = omega arith; some = λ p. flat })
+    (λ (some : peak_of m ≡ 0 → ⊥). let is = leaf some in record { most = omega arith; some = λ p. absurd (omega arith) })
+    (cases_eq (peak_of m) 0)
+
+-- the leaves of the canonical tree of a block other than zero have the side that it is made for
+pub leaf_of_full : (b h : ℕ) (m : Matrix) → IsMatrix m → height m ≡ side_of b h → m.columns ≡ side_of b h → (peak_of m ≡ 0 → ⊥) → leaf_of (canonical b h m) ≡ b
+leaf_of_full b zero m whole tall wide some = ap leaf_of (canonical_leaf b m some) ∙ tall ∙ side_low b
+leaf_of_full b (suc h) m whole tall wide some =
+    let half = side_of b h in
+    let parts : joined (upper_left half m) (upper_right half m) (lower_left half m) (lower_right half m) ≡ m =
+    joined-block m half half half half whole (tall ∙ side_twice b h) (wide ∙ side_twice b h) in
+    let peak : peak_of m ≡ max (max (peak_of (upper_left half m)) (peak_of (upper_right half m))) (max (peak_of (lower_left half m)) (peak_of (lower_right half m))) =
+    ap peak_of (sym parts)
+    ∙ peak-joined (upper_left half m) (upper_right half m) (lower_left half m) (lower_right half m)
+    (record {
+      upper = height-block m 0 0 half half ∙ sym (height-block m 0 half half half);
+      lower = height-block m half 0 half half ∙ sym (height-block m half half half half);
+      left = refl;
+      right = refl;
+    }) in
+    ap leaf_of (canonical_node b h m some)
+    ∙ greatest_tells b (peak_of (upper_left half m)) (peak_of (upper_right half m)) (peak_of (lower_left half m)) (peak_of (lower_right half m)) _ _ _ _
+    (tells b h (upper_left half m) (leaf_of_full b h (upper_left half m) (IsMatrix-block m 0 0 half half) (height-block m 0 0 half half) refl))
+    (tells b h (upper_right half m) (leaf_of_full b h (upper_right half m) (IsMatrix-block m 0 half half half) (height-block m 0 half half half) refl))
+    (tells b h (lower_left half m) (leaf_of_full b h (lower_left half m) (IsMatrix-block m half 0 half half) (height-block m half 0 half half) refl))
+    (tells b h (lower_right half m) (leaf_of_full b h (lower_right half m) (IsMatrix-block m half half half half) (height-block m half half half half) refl))
+    (rw (← peak) (pos_of_ne-zero some))
+
+-- the leaves of a canonical tree that is there
+pub leaf_of_canonical : (b h : ℕ) (t : Tree MatChunk) → IsCanonical b h t → is_there t ≡ true → leaf_of t ≡ b
+leaf_of_canonical b h t is there =
+    ap leaf_of is.same
+    ∙ leaf_of_full b h (block_of b h t) is.sized.whole is.sized.tall is.sized.wide (root_some b h t is there)
+
+-- a canonical tree has no greater leaves
+pub leaf_le : (b h : ℕ) (t : Tree MatChunk) → IsCanonical b h t → leaf_of t ≤ b
+leaf_le b h Nothing is = omega arith
+leaf_le b h (Root c x y z w) is = le_of_eq (leaf_of_canonical b h (Root c x y z w) is refl)
+
+-- nor have some
+pub leaf_in_le : (b h : ℕ) (trees : List (Tree MatChunk)) → AllByRecursion (IsCanonical b h) trees → leaf_in trees ≤ b
+leaf_in_le b h [] all = omega arith
+leaf_in_le b h (t ∷ trees) all = omega (arith, leaf_le b h t all.0, leaf_in_le b h trees all.1)
+
+-- the leaves of some canonical trees, of which one may be there
+pub leaf_in_canonical : (b h : ℕ) (trees : List (Tree MatChunk)) → AllByRecursion (IsCanonical b h) trees → (leaf_in trees ≡ b) ⊎ AllByRecursion (λ (t : Tree MatChunk). t ≡ Nothing) trees
+leaf_in_canonical b h [] all = inr tt
+leaf_in_canonical b h (Nothing ∷ trees) all =
+    ⊎_elim (λ (e : leaf_in trees ≡ b). inl (let same : max 0 (leaf_in trees) ≡ b = omega arith in same))
+    (λ (none : AllByRecursion (λ (t : Tree MatChunk). t ≡ Nothing) trees). inr (refl, none))
+    (leaf_in_canonical b h trees all.1)
+leaf_in_canonical b h (Root c x y z w ∷ trees) all =
+    let one : leaf_of (Root c x y z w) ≡ b = leaf_of_canonical b h (Root c x y z w) all.0 refl in
+    let rest = leaf_in_le b h trees all.1 in
+    let same : max (leaf_of (Root c x y z w)) (leaf_in trees) ≡ b = omega arith in
+    inl same
+
+-- the leaves of a sound list
+pub leaf_of_list : (b h : ℕ) (t : Tree MatChunk) → IsList b h t → is_there t ≡ true → leaf_of t ≡ b
+leaf_of_list b h Nothing is there = absurd (true≢false (sym there))
+leaf_of_list b h (Root (Entries entries) x y z w) is there = is.0.leaf
+leaf_of_list b h (Root (Leaf m) x y z w) is there = absurd is
+leaf_of_list b h (Root (Node k peak) x y z w) is there = absurd is
+leaf_of_list b h (Root (Num n) x y z w) is there = absurd is
+
+-- a number has no leaves
+pub leaf_of_number : (t : Tree MatChunk) → IsNumber t → leaf_of t ≡ 0
+leaf_of_number t is = ap leaf_of is.same ∙ cond_both (unsigned_abs (number_of t) == 0) Nothing (alone (Num (number_of t))) (λ x. leaf_of x ≡ 0) (λ e. refl) (λ e. refl)

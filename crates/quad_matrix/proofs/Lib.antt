@@ -1,0 +1,17 @@
+pub mod Sides
+pub mod Canonical
+pub mod Roots
+pub mod Quadrants
+pub mod Leaves
+pub mod Sums
+pub mod Numbers
+pub mod AnySide
+pub mod Lists
+pub mod Injective
+pub mod Peaks
+pub mod Names
+pub mod DraftWorks
+pub mod AddWorks
+pub mod AssignParts
+pub mod AssignWorks
+pub mod Laws

@@ -1,0 +1,6 @@
+use Rattle.std.proofs.Common.{◌≡◌, take}
+use Rattle.quad_matrix.specs.Chunks.{greatest_of}
+use Rattle.quad_matrix.proofs.chunk.Entries.peak.Given as goal
+
+abbrev pub invariant-loop-spot : goal.invariant-loop-spot
+invariant-loop-spot l = l.peak ≡ greatest_of (take l.spot-index l.spot-items)

@@ -1,0 +1,33 @@
+-- The contents of chunks.
+use Rattle.std.specs.Prelude.{ℕ, ◌≤◌, max, List, [], ◌∷◌, unsigned_abs}
+use Rattle.std.proofs.Common.{arith}
+use Rattle.dense_def.specs.Matrix.{peak_of}
+use Rattle.quad_matrix.specs.declared.chunk.Spot.{Spot}
+use Rattle.quad_matrix.specs.declared.chunk.MatChunk.{MatChunk}
+use Rattle.quad_matrix.specs.declared.chunk.MatChunk.TheVariants.{Leaf, Node, Entries, Num}
+
+-- how many children a content has
+abbrev pub arity_of : MatChunk → ℕ
+arity_of (Leaf m) = 0
+arity_of (Node height peak) = 4
+arity_of (Entries entries) = 0
+arity_of (Num n) = 0
+
+-- no content has more than four children
+pub few_children_of : (chunk : MatChunk) → arity_of chunk ≤ 4
+few_children_of (Leaf m) = omega arith
+few_children_of (Node height peak) = omega arith
+few_children_of (Entries entries) = omega arith
+few_children_of (Num n) = omega arith
+
+-- the greatest absolute value of an entry of a list
+abbrev pub greatest_of : List Spot → ℕ
+greatest_of [] = 0
+greatest_of (spot ∷ spots) = max (unsigned_abs spot.value) (greatest_of spots)
+
+-- the peak of a content: the greatest absolute value of a number in it
+abbrev pub peak_in : MatChunk → ℕ
+peak_in (Leaf m) = peak_of m
+peak_in (Node height peak) = peak
+peak_in (Entries entries) = greatest_of entries.list
+peak_in (Num n) = unsigned_abs n

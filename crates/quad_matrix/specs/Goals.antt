@@ -1,0 +1,73 @@
+-- What each kind of task asks, as a function of dense values.
+use Rattle.std.specs.Prelude.{◌≡◌, ℕ, ◌+◌, ◌-◌, ◌*◌, ◌^◌, ◌≤◌, List, [], ◌∷◌, ◌+ℤ◌, unsigned_abs}
+use Rattle.dense_def.specs.Matrix.{plus, joined, trace_of, SumFits, TraceFits}
+use Rattle.task_types.specs.Tree.{Tree, Nothing, Root}
+use Rattle.quad_matrix.specs.declared.chunk.MatChunk.{MatChunk}
+use Rattle.quad_matrix.specs.declared.chunk.MatChunk.TheVariants as chunk
+use Rattle.quad_matrix.specs.declared.kind.What.{What}
+use Rattle.quad_matrix.specs.declared.kind.What.TheVariants.{Assign, Add, Join, Trace, AddNum}
+use Rattle.quad_matrix.specs.declared.kind.MatKind.{MatKind}
+use Rattle.quad_matrix.specs.Spots.{AreSoundEntries}
+use Rattle.quad_matrix.specs.Blocks.{block_of, number_of, canonical, number_tree, IsCanonical, IsNumber, leaf_in}
+
+-- a kind
+abbrev pub kind_of : What → ℕ → MatKind
+kind_of what height = record { what = what; height = height }
+
+-- ---- Goals
+
+-- the goal of a kind of height h on trees whose leaves have side b
+abbrev pub goal_at : ℕ → What → ℕ → List (Tree MatChunk) → Tree MatChunk
+goal_at b Assign h (x ∷ []) = canonical b h (block_of b h x)
+goal_at b Add h (x ∷ y ∷ []) = canonical b h (plus (block_of b h x) (block_of b h y))
+goal_at b Join h (x ∷ y ∷ z ∷ w ∷ []) =
+    canonical b h (joined (block_of b (h - 1) x) (block_of b (h - 1) y) (block_of b (h - 1) z) (block_of b (h - 1) w))
+goal_at b Trace h (x ∷ []) = number_tree (trace_of (block_of b h x))
+goal_at b AddNum h (x ∷ y ∷ []) = number_tree (number_of x +ℤ number_of y)
+goal_at b what h trees = Nothing
+
+-- the goal of a kind on trees
+abbrev pub goal_of : MatKind → List (Tree MatChunk) → Tree MatChunk
+goal_of kind trees = goal_at (leaf_in trees) kind.what kind.height trees
+
+-- ---- Where goals are defined
+
+-- nothing, or a sound list of entries
+abbrev pub IsList : ℕ → ℕ → Tree MatChunk → Type 0
+IsList b h Nothing = Unit {0}
+IsList b h (Root (chunk.Entries entries) x y z w) =
+    AreSoundEntries b h entries × (x ≡ Nothing) × (y ≡ Nothing) × (z ≡ Nothing) × (w ≡ Nothing)
+IsList b h (Root content x y z w) = ⊥
+
+-- The trees are as many as the kind has inputs, they are nothing, canonical or sound, their heights and leaves fit, and at
+-- each place of the output the absolute values of the terms sum to at most 2 ^ 126.
+abbrev pub FitsAt : ℕ → What → ℕ → List (Tree MatChunk) → Type 0
+FitsAt b Assign h (x ∷ []) = IsList b h x
+FitsAt b Add h (x ∷ y ∷ []) = IsCanonical b h x × IsCanonical b h y × SumFits (block_of b h x) (block_of b h y)
+FitsAt b Join h (x ∷ y ∷ z ∷ w ∷ []) =
+    (1 ≤ h) × IsCanonical b (h - 1) x × IsCanonical b (h - 1) y × IsCanonical b (h - 1) z × IsCanonical b (h - 1) w
+FitsAt b Trace h (x ∷ []) = IsCanonical b h x × TraceFits (block_of b h x)
+FitsAt b AddNum h (x ∷ y ∷ []) =
+    (h ≡ 0) × IsNumber x × IsNumber y × (unsigned_abs (number_of x) + unsigned_abs (number_of y) ≤ 2 ^ 126)
+FitsAt b what h trees = ⊥
+
+-- the goal of a kind on trees is defined: for some side of the leaves they fit
+pub record IsDefined (kind : MatKind) (trees : List (Tree MatChunk)) : Type 0 where
+  pub low : kind.height ≤ 16
+  pub leaf : ℕ
+  pub leaf_high : leaf ≤ 64
+  pub fits : FitsAt leaf kind.what kind.height trees
+
+-- ---- Ranks
+
+-- the rank of what is computed at a height
+abbrev pub rank_at : What → ℕ → ℕ
+rank_at Join h = 4 * h
+rank_at Assign h = 4 * h + 1
+rank_at Add h = 4 * h + 1
+rank_at Trace h = 4 * h + 1
+rank_at AddNum h = 0
+
+-- the rank of a kind: its new tasks have lower ones
+abbrev pub rank_of : MatKind → ℕ
+rank_of kind = rank_at kind.what kind.height

@@ -1,0 +1,51 @@
+-- The names of the kinds of tasks.
+use Rattle.std.specs.Prelude.{◌≡◌, ℕ, Option, Some, List, [], ◌∷◌, codes, bytes_eq, find, refl}
+use Rattle.std.proofs.Common.{sym, ap, ◌∙◌, lit≤}
+use Rattle.task_types.specs.Names.{IsName}
+use Rattle.quad_matrix.specs.declared.kind.What.{What}
+use Rattle.quad_matrix.specs.declared.kind.What.TheVariants.{Assign, Add, Join, Trace, AddNum}
+use Rattle.quad_matrix.specs.declared.kind.MatKind.{MatKind}
+use Rattle.quad_matrix.specs.Goals.{kind_of}
+
+-- the name of what a task computes
+abbrev pub what_name : What → List ℕ
+what_name Assign = codes "assign"
+what_name Add = codes "add"
+what_name Join = codes "join"
+what_name Trace = codes "trace"
+what_name AddNum = codes "addnum"
+
+-- all that a task may compute
+abbrev pub all_whats : List What
+all_whats = Assign ∷ Add ∷ Join ∷ Trace ∷ AddNum ∷ []
+
+-- what has this name
+abbrev pub what_of : List ℕ → Option What
+what_of name = find (λ what. bytes_eq (what_name what) name) all_whats
+
+-- the names are names
+pub names_named : (what : What) → IsName (what_name what)
+names_named Assign = (lit≤ tt, lit≤ tt, refl)
+names_named Add = (lit≤ tt, lit≤ tt, refl)
+names_named Join = (lit≤ tt, lit≤ tt, refl)
+names_named Trace = (lit≤ tt, lit≤ tt, refl)
+names_named AddNum = (lit≤ tt, lit≤ tt, refl)
+
+-- each is found by its name
+pub what_of-name : (what : What) → what_of (what_name what) ≡ Some what
+what_of-name Assign = refl
+what_of-name Add = refl
+what_of-name Join = refl
+what_of-name Trace = refl
+what_of-name AddNum = refl
+
+-- so what has one name is one
+names_differ : (one other : What) → what_name one ≡ what_name other → one ≡ other
+names_differ one other e =
+    let found : Some one ≡ Some other = sym (what_of-name one) ∙ ap what_of e ∙ what_of-name other in cc
+
+-- kinds of one name and one height are one
+pub kinds_differ : (one other : MatKind) → what_name one.what ≡ what_name other.what → one.height ≡ other.height
+    → one ≡ other
+kinds_differ one other e h =
+    ap (λ what. kind_of what one.height) (names_differ one.what other.what e) ∙ ap (kind_of other.what) h

@@ -1,0 +1,81 @@
+ghost use Rattle.std.specs.Prelude.{◌≡◌, ◌≤◌, length};
+ghost use Rattle.quad_matrix.specs.Names.{what_name, what_of};
+
+use cht_ids::Short;
+use task_types::{Kinds, kind_text};
+
+/// What a task on matrices computes.
+#[derive(Clone, Copy, Debug, PartialEq, Eq)]
+pub enum What {
+    /// The block of a list of entries.
+    Assign,
+    /// The sum of two blocks.
+    Add,
+    /// The block with four quadrants.
+    Join,
+    /// The sum of the numbers on the diagonal of a block.
+    Trace,
+    /// The sum of two numbers.
+    AddNum,
+}
+
+// All of them.
+const ALL: [What; 5] = [
+    What::Assign,
+    What::Add,
+    What::Join,
+    What::Trace,
+    What::AddNum,
+];
+
+impl What {
+    /// Its name, in ASCII.
+    pub fn name(self) -> &'static [u8]
+        ensures value { result.now ≡ what_name self }
+        ensures few { length result.now ≤ 40 }
+    {
+        match self {
+            What::Assign => b"assign",
+            What::Add => b"add",
+            What::Join => b"join",
+            What::Trace => b"trace",
+            What::AddNum => b"addnum",
+        }
+    }
+
+    /// What has this name; `None` where nothing has it.
+    pub fn of_name(name: &[u8]) -> Option<What>
+        ensures { result ≡ what_of name.now }
+    {
+        ALL.iter().copied().find(|what| what.name() == name)
+    }
+}
+
+/// A kind of task: what it computes, and the height of its blocks; for `Join` that of the block that is joined, and 0 for
+/// `AddNum`.
+#[derive(Clone, Copy, Debug, PartialEq, Eq)]
+pub struct MatKind {
+    pub what: What,
+    pub height: u32,
+}
+
+impl Kinds for MatKind {
+    ghost name_of = { λ kind. what_name kind.what };
+
+    ghost height_of = { λ kind. kind.height };
+
+    ghost use Rattle.quad_matrix.specs.Names.{names_named, kinds_differ};
+
+    ghost named = { λ kind. names_named kind.what };
+
+    ghost told_apart = { kinds_differ };
+
+    fn text(&self) -> Short {
+        kind_text(self.what.name(), self.height)
+    }
+
+    fn of_words(name: &[u8], height: u32) -> Option<MatKind> {
+        let what = What::of_name(name)?;
+        Some(MatKind { what, height })
+    }
+}
