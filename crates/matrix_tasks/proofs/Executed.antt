@@ -1,0 +1,135 @@
+-- What the code answers by a plan is sound, and what it needs of the entries that it splits.
+use Rattle.std.proofs.Common.{◌≡◌, ℕ, zero, suc, ◌≤◌, true, Option, None, Some, List, [], ◌∷◌, map, refl, sym, ap, ◌∙◌, subst, arith}
+use Rattle.std.proofs.lemmas.Bool.{false≢true}
+use Rattle.task_types.specs.declared.outcome.Outcome.{Outcome}
+use Rattle.task_types.specs.declared.inputs.Inputs.{Inputs}
+use Rattle.task_types.specs.declared.inputs.View.{View}
+use Rattle.task_types.specs.declared.inputs.View.TheVariants as view
+use Rattle.task_types.specs.Tree.{Tree, Nothing, Root, is_there}
+use Rattle.task_types.specs.Presence.{Presence, presence_of, all_present}
+use Rattle.task_types.specs.Shown.{view_of, mask, Shows, presences_in}
+use Rattle.task_types.specs.Sound.{IsSound}
+use Rattle.task_types.proofs.Shown.{presences_in-shown, first-shown_one, first-shown_two}
+use Rattle.quad_matrix.specs.declared.chunk.MatChunk.{MatChunk}
+use Rattle.quad_matrix.specs.declared.chunk.MatChunk.TheVariants as chunk
+use Rattle.quad_matrix.specs.declared.chunk.Entries.{Entries}
+use Rattle.quad_matrix.specs.declared.kind.What.{What}
+use Rattle.quad_matrix.specs.declared.kind.What.TheVariants.{Assign, Add, Join, Trace, AddNum}
+use Rattle.quad_matrix.specs.declared.kind.MatKind.{MatKind}
+use Rattle.quad_matrix.specs.Chunks.{arity_of}
+use Rattle.quad_matrix.specs.Blocks.{IsCanonical}
+use Rattle.quad_matrix.specs.Goals.{kind_of, FitsAt, IsDefined, IsList}
+use Rattle.quad_matrix.specs.Matrices.{matrices}
+use Rattle.quad_matrix.specs.Plans.{plan_of}
+use Rattle.quad_matrix.proofs.Sides.{suc-sub_one}
+use Rattle.quad_matrix.proofs.Roots.{root_of_node}
+use Rattle.matrix_tasks.specs.declared.sketch.Sketch.{Sketch}
+use Rattle.matrix_tasks.specs.Answers.{entries_shown}
+use Rattle.matrix_tasks.specs.Sketches.{all_sketched, begun, joining, outcome_of, HaveQuadrants, planned_answer}
+use Rattle.matrix_tasks.proofs.ByPlan.{add_by_plan, trace_by_plan}
+use Rattle.matrix_tasks.proofs.AssignByPlan.{list_by_plan}
+
+-- the answer of a kind, by what is known of its inputs and by the entries that the first one shows
+answer_is : (what : What) (h : ℕ) (inputs : Inputs MatChunk) (known : List Presence) (shown : Option Entries)
+    → presences_in inputs ≡ known → entries_shown inputs.first ≡ shown
+    → planned_answer (kind_of what (suc h)) inputs ≡ outcome_of (suc h) (joining (plan_of what).ending) (all_sketched h known (begun shown) (plan_of what).parts)
+answer_is what h inputs known shown e f =
+    let ended : Sketch → Outcome MatChunk MatKind = λ sketch. outcome_of (suc h) (joining (plan_of what).ending) sketch in
+    ap (λ low. ended (all_sketched low (presences_in inputs) (begun (entries_shown inputs.first)) (plan_of what).parts)) (suc-sub_one h)
+    ∙ ap (λ (known : List Presence). ended (all_sketched h known (begun (entries_shown inputs.first)) (plan_of what).parts)) e
+    ∙ ap (λ (shown : Option Entries). ended (all_sketched h known (begun shown) (plan_of what).parts)) f
+
+assign_executes : (b h : ℕ) (inputs : Inputs MatChunk) (x : Tree MatChunk) → suc h ≤ 16 → FitsAt b Assign (suc h) (x ∷ []) → Shows inputs (x ∷ [])
+    → all_present (map presence_of (x ∷ [])) ≡ true
+    → IsSound arity_of matrices (kind_of Assign (suc h)) (x ∷ []) (planned_answer (kind_of Assign (suc h)) inputs)
+assign_executes b h inputs Nothing low fits shows there = absurd (false≢true there)
+assign_executes b h inputs (Root (chunk.Leaf m) x0 x1 x2 x3) low fits shows there = absurd fits
+assign_executes b h inputs (Root (chunk.Node k peak) x0 x1 x2 x3) low fits shows there = absurd fits
+assign_executes b h inputs (Root (chunk.Num n) x0 x1 x2 x3) low fits shows there = absurd fits
+assign_executes b h inputs (Root (chunk.Entries e) x0 x1 x2 x3) low fits shows there =
+    let x : Tree MatChunk = Root (chunk.Entries e) x0 x1 x2 x3 in
+    subst (λ (outcome : Outcome MatChunk MatKind). IsSound arity_of matrices (kind_of Assign (suc h)) (x ∷ []) outcome)
+    (sym (answer_is Assign h inputs (map presence_of (x ∷ [])) (Some e) (presences_in-shown inputs (x ∷ []) shows) (ap entries_shown (first-shown_one inputs x shows))))
+    (list_by_plan b h e fits.0 x0 x1 x2 x3 low fits)
+
+at_height : (what : What) (h : ℕ) (inputs : Inputs MatChunk) → (what ≡ Join → ⊥)
+    → all_present (presences_in inputs) ≡ true → (trees : List (Tree MatChunk)) → Shows inputs trees → IsDefined (kind_of what (suc h)) trees
+    → IsSound arity_of matrices (kind_of what (suc h)) trees (planned_answer (kind_of what (suc h)) inputs)
+at_height Join h inputs e there trees shows d = absurd (e refl)
+at_height AddNum h inputs e there [] shows d = absurd d.fits
+at_height AddNum h inputs e there (x ∷ []) shows d = absurd d.fits
+at_height AddNum h inputs e there (x ∷ y ∷ []) shows d = let none : suc h ≡ 0 = d.fits.0 in absurd (omega arith)
+at_height AddNum h inputs e there (x ∷ y ∷ z ∷ trees) shows d = absurd d.fits
+at_height Assign h inputs e there [] shows d = absurd d.fits
+at_height Assign h inputs e there (x ∷ []) shows d =
+    assign_executes d.leaf h inputs x d.low d.fits shows (ap all_present (sym (presences_in-shown inputs (x ∷ []) shows)) ∙ there)
+at_height Assign h inputs e there (x ∷ y ∷ trees) shows d = absurd d.fits
+at_height Add h inputs e there [] shows d = absurd d.fits
+at_height Add h inputs e there (x ∷ []) shows d = absurd d.fits
+at_height Add h inputs e there (x ∷ y ∷ []) shows d =
+    let trees : List (Tree MatChunk) = x ∷ y ∷ [] in
+    let known = presences_in-shown inputs trees shows in
+    subst (λ (outcome : Outcome MatChunk MatKind). IsSound arity_of matrices (kind_of Add (suc h)) trees outcome)
+    (sym (answer_is Add h inputs (map presence_of trees) (entries_shown inputs.first) known refl))
+    (add_by_plan d.leaf h (entries_shown inputs.first) x y d.leaf_high d.low (ap all_present (sym known) ∙ there) d.fits)
+at_height Add h inputs e there (x ∷ y ∷ z ∷ trees) shows d = absurd d.fits
+at_height Trace h inputs e there [] shows d = absurd d.fits
+at_height Trace h inputs e there (x ∷ []) shows d =
+    let trees : List (Tree MatChunk) = x ∷ [] in
+    let known = presences_in-shown inputs trees shows in
+    subst (λ (outcome : Outcome MatChunk MatKind). IsSound arity_of matrices (kind_of Trace (suc h)) trees outcome)
+    (sym (answer_is Trace h inputs (map presence_of trees) (entries_shown inputs.first) known refl))
+    (trace_by_plan d.leaf h (entries_shown inputs.first) x d.leaf_high d.low (ap all_present (sym known) ∙ there) d.fits)
+at_height Trace h inputs e there (x ∷ y ∷ trees) shows d = absurd d.fits
+
+-- what a kind of height at least 1 answers where its inputs are there is sound
+pub plan_sound : (what : What) (height : ℕ) (inputs : Inputs MatChunk) → (what ≡ Join → ⊥) → 1 ≤ height
+    → all_present (presences_in inputs) ≡ true → (trees : List (Tree MatChunk)) → Shows inputs trees → IsDefined (kind_of what height) trees
+    → IsSound arity_of matrices (kind_of what height) trees (planned_answer (kind_of what height) inputs)
+plan_sound what zero inputs e high there trees shows d = absurd (omega arith)
+plan_sound what (suc h) inputs e high there trees shows d = at_height what h inputs e there trees shows d
+
+-- ---- The entries that are split
+
+-- a canonical tree of height at least 1 shows no entries
+no_entries : (b h : ℕ) (x : Tree MatChunk) → IsCanonical b (suc h) x → entries_shown (view_of x) ≡ None
+no_entries b h Nothing is = refl
+no_entries b h (Root c x0 x1 x2 x3) is =
+    ap (λ (content : MatChunk). entries_shown (view.There content (mask (is_there x0) (is_there x1) (is_there x2) (is_there x3)))) (root_of_node b h c x0 x1 x2 x3 is)
+
+list_quadrants : (b h : ℕ) (x : Tree MatChunk) → suc h ≤ 16 → IsList b (suc h) x → HaveQuadrants (entries_shown (view_of x))
+list_quadrants b h Nothing low is = tt
+list_quadrants b h (Root (chunk.Leaf m) x0 x1 x2 x3) low is = absurd is
+list_quadrants b h (Root (chunk.Node k peak) x0 x1 x2 x3) low is = absurd is
+list_quadrants b h (Root (chunk.Num n) x0 x1 x2 x3) low is = absurd is
+list_quadrants b h (Root (chunk.Entries e) x0 x1 x2 x3) low is =
+    (omega (arith, is.0.leaf, is.0.leaf_high), omega (arith, is.0.height), omega (arith, is.0.height))
+
+quadrants_at : (what : What) (h : ℕ) (inputs : Inputs MatChunk) → (what ≡ Join → ⊥)
+    → (trees : List (Tree MatChunk)) → Shows inputs trees → IsDefined (kind_of what (suc h)) trees
+    → HaveQuadrants (entries_shown inputs.first)
+quadrants_at Join h inputs e trees shows d = absurd (e refl)
+quadrants_at AddNum h inputs e [] shows d = absurd d.fits
+quadrants_at AddNum h inputs e (x ∷ []) shows d = absurd d.fits
+quadrants_at AddNum h inputs e (x ∷ y ∷ []) shows d = let none : suc h ≡ 0 = d.fits.0 in absurd (omega arith)
+quadrants_at AddNum h inputs e (x ∷ y ∷ z ∷ trees) shows d = absurd d.fits
+quadrants_at Assign h inputs e [] shows d = absurd d.fits
+quadrants_at Assign h inputs e (x ∷ []) shows d =
+    subst (λ (shown : View MatChunk). HaveQuadrants (entries_shown shown)) (sym (first-shown_one inputs x shows)) (list_quadrants d.leaf h x d.low d.fits)
+quadrants_at Assign h inputs e (x ∷ y ∷ trees) shows d = absurd d.fits
+quadrants_at Add h inputs e [] shows d = absurd d.fits
+quadrants_at Add h inputs e (x ∷ []) shows d = absurd d.fits
+quadrants_at Add h inputs e (x ∷ y ∷ []) shows d =
+    subst HaveQuadrants (sym (ap entries_shown (first-shown_two inputs x y shows) ∙ no_entries d.leaf h x d.fits.0)) tt
+quadrants_at Add h inputs e (x ∷ y ∷ z ∷ trees) shows d = absurd d.fits
+quadrants_at Trace h inputs e [] shows d = absurd d.fits
+quadrants_at Trace h inputs e (x ∷ []) shows d =
+    subst HaveQuadrants (sym (ap entries_shown (first-shown_one inputs x shows) ∙ no_entries d.leaf h x d.fits.0)) tt
+quadrants_at Trace h inputs e (x ∷ y ∷ trees) shows d = absurd d.fits
+
+-- entries that are shown to a kind of height at least 1 have quadrants
+pub have_quadrants : (what : What) (height : ℕ) (inputs : Inputs MatChunk) → (what ≡ Join → ⊥) → 1 ≤ height
+    → (trees : List (Tree MatChunk)) → Shows inputs trees → IsDefined (kind_of what height) trees
+    → HaveQuadrants (entries_shown inputs.first)
+have_quadrants what zero inputs e high trees shows d = absurd (omega arith)
+have_quadrants what (suc h) inputs e high trees shows d = quadrants_at what h inputs e trees shows d

@@ -1,0 +1,26 @@
+use Rattle.std.proofs.Common.{sym, ap, ◌∙◌, subst, arith}
+use Rattle.std.proofs.lemmas.Result.{IfOk-weaker}
+use Rattle.task_types.specs.Sound.{IsSound}
+use Rattle.quad_matrix.specs.Chunks.{arity_of}
+use Rattle.quad_matrix.specs.Matrices.{matrices}
+use Rattle.matrix_tasks.specs.Answers.{given}
+use Rattle.matrix_tasks.proofs.Joins.{join_sound}
+use Rattle.matrix_tasks.proofs.NullInputs.{null_sound}
+use Rattle.matrix_tasks.proofs.Executed.{plan_sound, have_quadrants}
+use Rattle.matrix_tasks.proofs.run_general.Goals as goal
+
+pub returns-in-Join : goal.returns-in-Join
+returns-in-Join c =
+    IfOk-weaker c.join.result _ _ (λ outcome e trees s d. subst (λ answer. IsSound arity_of matrices c.args.kind trees answer) (sym e) (join_sound c.args.kind.what c.args.kind.height c.args.inputs.now c.in-Join.is trees s d)) c.join.ensures
+
+pub returns-then-not-all_present : goal.returns-then-not-all_present
+returns-then-not-all_present c =
+    λ trees s d. subst (λ answer. IsSound arity_of matrices c.args.kind trees answer) (sym (c.given.ensures ∙ ap given c.null_place-output.ensures)) (null_sound c.args.kind.what c.args.kind.height c.args.inputs.now c.in_default.not-Join (sym c.if-not-all_present.ensures) trees s d)
+
+pub answer-requires : goal.answer-requires
+answer-requires c =
+    have_quadrants c.args.kind.what c.args.kind.height c.args.inputs.now c.in_default.not-Join (omega arith) c.requires.0 c.requires.1 c.requires.2
+
+pub returns-then-kind-gt0 : goal.returns-then-kind-gt0
+returns-then-kind-gt0 c =
+    IfOk-weaker c.answer.result _ _ (λ outcome e trees s d. subst (λ answer. IsSound arity_of matrices c.args.kind trees answer) (sym e) (plan_sound c.args.kind.what c.args.kind.height c.args.inputs.now c.in_default.not-Join (omega arith) (sym c.if-not-all_present.ensures) trees s d)) c.answer.ensures

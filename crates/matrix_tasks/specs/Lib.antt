@@ -1,0 +1,6 @@
+pub mod Answers
+pub mod Quarters
+pub mod Sketches
+pub mod Stage
+pub mod Steps
+pub mod TestBlocks

@@ -1,0 +1,80 @@
+// Kinds at height 0.
+ghost use Rattle.std.specs.Prelude.{◌≡◌, IfOk, option_copied};
+ghost use Rattle.matrix_tasks.specs.Answers.{leaf_shown, LeavesFit, add_answer, LeafFits, trace_answer, entries_shown, AreForLeaf, assign_answer};
+
+use crate::entries::leaf_block;
+use crate::outcomes::{given, leaf, number};
+use cht_ids::Memory;
+use leaf_blocks::Leaf;
+use quad_matrix::{Entries, MatChunk, MatKind};
+use std::alloc::Global;
+use task_types::{Inputs, Outcome, Place, View};
+
+// The sum of two leaves, or null where it is zero.
+pub(crate) fn add(
+    alloc: Global,
+    inputs: &Inputs<MatChunk>,
+) -> Result<Outcome<MatChunk, MatKind>, Memory>
+    requires { LeavesFit (leaf_shown inputs.now.first) (leaf_shown inputs.now.second) }
+    ensures { IfOk result
+        (λ outcome. outcome ≡ add_answer (leaf_shown inputs.now.first) (leaf_shown inputs.now.second)) }
+{
+    match (leaf_shown(&inputs.first), leaf_shown(&inputs.second)) {
+        (Some(first), Some(second)) => leaf(alloc, first.add(second)?),
+        _ => Ok(given(alloc, Place::Null)),
+    }
+}
+
+// The trace of a leaf, or null where it is 0.
+pub(crate) fn trace(
+    alloc: Global,
+    inputs: &Inputs<MatChunk>,
+) -> Result<Outcome<MatChunk, MatKind>, Memory>
+    requires { LeafFits (leaf_shown inputs.now.first) }
+    ensures { IfOk result (λ outcome. outcome ≡ trace_answer (leaf_shown inputs.now.first)) }
+{
+    match leaf_shown(&inputs.first) {
+        Some(block) => number(alloc, block.trace()),
+        None => Ok(given(alloc, Place::Null)),
+    }
+}
+
+// The leaf that an input shows, if it shows one.
+fn leaf_shown(input: &View<MatChunk>) -> Option<&Leaf>
+    ensures { option_copied result ≡ leaf_shown input.now }
+{
+    match input {
+        View::Nothing => None,
+        View::There { content, .. } => match content.get() {
+            MatChunk::Leaf(block) => Some(block),
+            _ => None,
+        },
+    }
+}
+
+// The leaf of a list of entries, or null where it is zero.
+pub(crate) fn assign(
+    alloc: Global,
+    inputs: &Inputs<MatChunk>,
+) -> Result<Outcome<MatChunk, MatKind>, Memory>
+    requires { AreForLeaf (entries_shown inputs.now.first) }
+    ensures { IfOk result (λ outcome. outcome ≡ assign_answer (entries_shown inputs.now.first)) }
+{
+    match entries_shown(&inputs.first) {
+        Some(entries) => leaf(alloc, leaf_block(alloc, entries)?),
+        None => Ok(given(alloc, Place::Null)),
+    }
+}
+
+// The entries that an input shows, if it shows some.
+pub(crate) fn entries_shown(input: &View<MatChunk>) -> Option<&Entries>
+    ensures { option_copied result ≡ entries_shown input.now }
+{
+    match input {
+        View::Nothing => None,
+        View::There { content, .. } => match content.get() {
+            MatChunk::Entries(entries) => Some(entries),
+            _ => None,
+        },
+    }
+}

@@ -1,0 +1,69 @@
+//! What the tasks on matrices answer: for each kind the outcome of one execution, by the table of the plans.
+#![tactic(auto)]
+
+ghost use Rattle.std.specs.Prelude.{◌≡◌, true, IfOk};
+ghost use Rattle.task_types.specs.Presence.{all_present};
+ghost use Rattle.task_types.specs.Shown.{presences_in};
+ghost use Rattle.task_types.specs.Sound.{HasGoal, IsSoundFor};
+ghost use Rattle.quad_matrix.specs.Chunks.{arity_of};
+ghost use Rattle.quad_matrix.specs.Matrices.{matrices};
+
+mod entries;
+mod leaves;
+mod nodes;
+mod nulls;
+mod numbers;
+mod outcomes;
+mod plan;
+mod planned;
+mod sketch;
+#[cfg(test)]
+mod tests;
+
+use cht_ids::Memory;
+use quad_matrix::{MatChunk, MatKind, What};
+use std::alloc::Global;
+use task_types::{Inputs, Outcome};
+
+/// Executes one task on matrices: what is shown of its inputs may have null ones among them. The answer may be `Memory`,
+/// and then nothing has changed.
+pub fn run_general(
+    alloc: Global,
+    kind: MatKind,
+    inputs: &Inputs<MatChunk>,
+) -> Result<Outcome<MatChunk, MatKind>, Memory>
+    requires { HasGoal matrices kind inputs.now }
+    ensures { IfOk result (IsSoundFor arity_of matrices kind inputs.now) }
+{
+    if let What::Join = kind.what {
+        return nodes::join(alloc, kind.height, inputs);
+    }
+    if !inputs.all_present() {
+        let output = nulls::null_place(kind.what, inputs);
+        return Ok(outcomes::given(alloc, output));
+    }
+    if kind.height > 0 {
+        return planned::answer(alloc, kind, inputs);
+    }
+    at_height_0(alloc, kind, inputs)
+}
+
+// Executes a task at height 0 whose inputs are there.
+fn at_height_0(
+    alloc: Global,
+    kind: MatKind,
+    inputs: &Inputs<MatChunk>,
+) -> Result<Outcome<MatChunk, MatKind>, Memory>
+    requires defined { HasGoal matrices kind inputs.now }
+    requires low { kind.height ≡ 0 }
+    requires present { all_present (presences_in inputs.now) ≡ true }
+    ensures { IfOk result (IsSoundFor arity_of matrices kind inputs.now) }
+{
+    match kind.what {
+        What::Assign => leaves::assign(alloc, inputs),
+        What::Add => leaves::add(alloc, inputs),
+        What::Trace => leaves::trace(alloc, inputs),
+        What::AddNum => numbers::add(alloc, inputs),
+        What::Join => nodes::join(alloc, kind.height, inputs),
+    }
+}

@@ -1,0 +1,69 @@
+// Nodes over four quadrants.
+ghost use Rattle.std.specs.Prelude.{◌≡◌, IfOk};
+ghost use Rattle.task_types.specs.Shown.{presences_in};
+ghost use Rattle.quad_matrix.specs.Plans.{are_null, input_place};
+ghost use Rattle.matrix_tasks.specs.Answers.{peak_shown, greatest_peak, join_answer};
+
+use crate::outcomes::{given, one_chunk};
+use cht_ids::Memory;
+use quad_matrix::{MatChunk, MatKind};
+use std::alloc::Global;
+use task_types::{Inputs, Outcome, Place, View};
+
+// A node of this height over the inputs that are there, or null where none is.
+pub(crate) fn join(
+    alloc: Global,
+    height: u32,
+    inputs: &Inputs<MatChunk>,
+) -> Result<Outcome<MatChunk, MatKind>, Memory>
+    ensures { IfOk result (λ outcome. outcome ≡ join_answer height inputs.now) }
+{
+    let places = [
+        input_place(inputs, 0),
+        input_place(inputs, 1),
+        input_place(inputs, 2),
+        input_place(inputs, 3),
+    ];
+    if are_null(&places) {
+        return Ok(given(alloc, Place::Null));
+    }
+    let peak = greatest_peak(inputs);
+    one_chunk(alloc, MatChunk::Node { height, peak }, &places)
+}
+
+// An input, or null where it is absent.
+pub(crate) fn input_place(inputs: &Inputs<MatChunk>, i: u8) -> Place
+    ensures { result ≡ input_place (presences_in inputs.now) i }
+{
+    if inputs.is_present(i) {
+        Place::Input(i)
+    } else {
+        Place::Null
+    }
+}
+
+// Whether all places are null.
+pub(crate) fn are_null(places: &[Place]) -> bool
+    ensures { result ≡ are_null places.now }
+{
+    places.iter().all(|place| matches!(place, Place::Null))
+}
+
+// The greatest peak of the four inputs.
+pub(crate) fn greatest_peak(inputs: &Inputs<MatChunk>) -> u128
+    ensures { result ≡ greatest_peak inputs.now }
+{
+    let upper = peak(&inputs.first).max(peak(&inputs.second));
+    let lower = peak(&inputs.third).max(peak(&inputs.fourth));
+    upper.max(lower)
+}
+
+// The peak of an input, and 0 where it is null.
+fn peak(input: &View<MatChunk>) -> u128
+    ensures { result ≡ peak_shown input.now }
+{
+    match input {
+        View::Nothing => 0,
+        View::There { content, .. } => content.get().peak(),
+    }
+}
