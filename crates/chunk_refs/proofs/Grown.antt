@@ -1,0 +1,58 @@
+-- The tree of a new identifier, and what others lead to after each call.
+use Rattle.std.proofs.Common.{◌≡◌, ℕ, suc, ◌+◌, ◌<◌, List, [], ◌∷◌, Some, is_some, refl, sym, ap, ◌∙◌, arith}
+use Rattle.std.specs.Prelude.{map as each}
+use Rattle.std.specs.Option.{option_map}
+use Rattle.cht_ids.specs.declared.refs.Id.{Id}
+use Rattle.cht_ids.specs.declared.refs.Ref.{Ref}
+use Rattle.cht_ids.specs.declared.refs.Ref.TheVariants.{Null, Id as Held}
+use Rattle.task_types.specs.Tree.{Nothing, rooted}
+use Rattle.chunk_refs.specs.declared.holder.Holder.{Holder}
+use Rattle.chunk_refs.specs.declared.holder.Holder.TheVariants.{Body}
+use Rattle.chunk_refs.specs.Names.{Names, Naming, naming_at, naming_of, owned_by, holder_of, AreLive, IsLive}
+use Rattle.chunk_refs.specs.Steps.{registered, numbered}
+use Rattle.chunk_refs.specs.Trees.{tree_named, led_to, grown, tree_within, body_tree, tree_of}
+use Rattle.chunk_refs.specs.Rules.{IsSound, AreWithin}
+use Rattle.chunk_refs.proofs.Copies.{AreCopies}
+use Rattle.chunk_refs.proofs.Sound.{new-body, new-naming, new-copies, more-registered}
+use Rattle.chunk_refs.proofs.Trees.{AreMore, same-within, tree-kept}
+use Rattle.chunk_refs.proofs.Within.{naming_of-kept, owned-same}
+
+module _ {C : Type 0} where
+  -- copies lead to what the children lead to
+  same-copies : (arity : C → ℕ) (names after : Names C) (holder : Holder) (depth : ℕ) → IsSound arity names → AreMore names after
+      → ((q : ℕ) (naming : Naming) → naming_at names q ≡ Some naming → naming.body < depth)
+      → (refs own : List Ref) → AreCopies names after holder refs own → each (led_to (tree_within depth after) after) own ≡ each (tree_of names) refs
+  same-copies arity names after holder depth sound more deep [] [] copies = refl
+  same-copies arity names after holder depth sound more deep [] (r ∷ own) copies = absurd copies
+  same-copies arity names after holder depth sound more deep (Null ∷ refs) [] copies = absurd copies
+  same-copies arity names after holder depth sound more deep (Null ∷ refs) (Null ∷ own) copies = ap (λ rest. Nothing ∷ rest) (same-copies arity names after holder depth sound more deep refs own copies)
+  same-copies arity names after holder depth sound more deep (Null ∷ refs) (Held id ∷ own) copies = absurd copies
+  same-copies arity names after holder depth sound more deep (Held child ∷ refs) [] copies = absurd copies
+  same-copies arity names after holder depth sound more deep (Held child ∷ refs) (Null ∷ own) copies = absurd copies
+  same-copies arity names after holder depth sound more deep (Held child ∷ refs) (Held id ∷ own) copies =
+      let c = copies.0 in
+      let new : naming_of after id ≡ Some (record c.0 { holder = holder }) = ap (owned_by id.owner) c.4 ∙ owned-same id.owner (record c.0 { holder = holder }) (c.2 ∙ sym c.3) in
+      let old : naming_of names child ≡ Some c.0 = ap (owned_by child.owner) c.1 ∙ owned-same child.owner c.0 c.2 in
+      let head : tree_named (tree_within depth after) (naming_of after id) ≡ tree_named (body_tree names) (naming_of names child) =
+      ap (tree_named (tree_within depth after)) new
+      ∙ sym (same-within arity names after sound more (suc c.0.body) depth c.0.body (omega arith) (deep child.number c.0 c.1) (ap is_some (sound.named child.number c.0 c.1).1))
+      ∙ sym (ap (tree_named (body_tree names)) old) in
+      let rest = same-copies arity names after holder depth sound more deep refs own copies.1 in
+      λ i. head i ∷ rest i
+
+  -- the new identifier leads to the content over the trees of the children
+  pub tree-registered : (arity : C → ℕ) (names : Names C) (drawn : ℕ) (holder : Holder) (worker : ℕ) (content : C) (refs : List Ref) → IsSound arity names → AreWithin names drawn → AreLive names refs
+      → tree_of (registered names drawn holder worker content refs) (Held (record { owner = worker; number = drawn + 2 })) ≡ rooted content (each (tree_of names) refs)
+  tree-registered arity names drawn holder worker content refs sound within live =
+      let after = registered names drawn holder worker content refs in
+      ap (tree_named (body_tree after)) (ap (owned_by worker) (new-naming names drawn holder worker content refs within) ∙ owned-same worker (record { owner = worker; body = drawn + 1; holder = holder }) refl)
+      ∙ ap (grown (tree_within (drawn + 1) after) after) (new-body names drawn holder worker content refs)
+      ∙ ap (rooted content) (same-copies arity names after (Body (drawn + 1)) (drawn + 1) sound (more-registered names drawn holder worker content refs within)
+      (λ q naming is. omega (arith, within.bodies naming.body (ap is_some (sound.named q naming is).1)))
+      refs (numbered (drawn + 2) refs) (new-copies names drawn holder worker content refs within live))
+
+  -- what was live is held by whom it was and leads where it led
+  pub others-kept : (arity : C → ℕ) (names more : Names C) → IsSound arity names → AreMore names more
+      → (id : Id) → IsLive names id → (holder_of more id ≡ holder_of names id) × (tree_of more (Held id) ≡ tree_of names (Held id))
+  others-kept arity names more sound is_more id live =
+      (ap (option_map (λ (naming : Naming). naming.holder)) (naming_of-kept names more id is_more.ids live), tree-kept arity names more sound is_more (Held id) live)

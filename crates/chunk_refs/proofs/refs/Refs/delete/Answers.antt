@@ -1,0 +1,27 @@
+use Rattle.std.proofs.Common.{◌≡◌, None, sym, subst}
+use Rattle.chunk_refs.specs.Names.{Contents, naming_at}
+use Rattle.chunk_refs.specs.Others.{AreOthersLive, AreRestAsBefore}
+use Rattle.chunk_refs.specs.Rules.{IsSound, AreWithin}
+use Rattle.chunk_refs.specs.Inside.{names_of}
+use Rattle.chunk_refs.proofs.Calls.{delete-gone, delete-others, delete-rest, delete-within}
+use Rattle.chunk_refs.proofs.refs.Refs.delete.Goals as goal
+
+pub returns-clause-gone : goal.returns-clause-gone
+returns-clause-gone g c =
+    subst (λ names. naming_at names c.args.id.number ≡ None) (sym c.delete.ensures.names) (delete-gone (names_of c.self.inside.parts) c.args.id.number)
+
+pub returns-clause-others : goal.returns-clause-others
+returns-clause-others g c =
+    subst (λ (v : Contents g.row.C.Denot). AreOthersLive v.names (names_of c.delete.new.self) c.args.id) c.self.view_is
+    (subst (λ names. AreOthersLive (names_of c.self.inside.parts) names c.args.id) (sym c.delete.ensures.names) (delete-others (names_of c.self.inside.parts) c.args.id))
+
+pub returns-clause-rest : goal.returns-clause-rest
+returns-clause-rest g c =
+    let sound = subst (λ names. IsSound g.C.Payload.arity names) c.delete.ensures.names c.delete.ensures.sound in
+    subst (λ (v : Contents g.row.C.Denot). AreRestAsBefore v.names (names_of c.delete.new.self)) c.self.view_is
+    (subst (λ names. AreRestAsBefore (names_of c.self.inside.parts) names) (sym c.delete.ensures.names) (delete-rest g.C.Payload.arity (names_of c.self.inside.parts) c.args.id.number sound))
+
+pub returns-clause-numbered : goal.returns-clause-numbered
+returns-clause-numbered g c = λ bound within.
+    subst (λ names. AreWithin names bound) (sym c.delete.ensures.names)
+    (delete-within (names_of c.self.inside.parts) c.args.id.number bound (subst (λ (v : Contents g.row.C.Denot). AreWithin v.names bound) (sym c.self.view_is) within))

@@ -1,0 +1,108 @@
+// The children of a body as four references.
+ghost use Rattle.std.specs.Prelude.{◌≡◌, ◌+◌, ◌≤◌, ◌<◌, ◌^◌, length, drop, slice_get, Some};
+ghost use Rattle.chunk_refs.specs.Steps.{drawn_by, present, numbered_ref, numbered};
+ghost use Rattle.chunk_refs.specs.Inside.{refs_of, all_four, AreNull};
+
+use cht_ids::{Counter, Id, Ref};
+
+// The children of a body: the first `count`, of at most four. Those past them are null.
+#[derive(Clone, Copy)]
+pub(crate) struct Children {
+    pub count: u32,
+    pub first: Ref,
+    pub second: Ref,
+    pub third: Ref,
+    pub fourth: Ref,
+}
+
+// One number for a child that is not null.
+fn draws(child: Ref) -> u32
+    ensures value { result ≡ drawn_by child }
+    ensures few { result ≤ 1 }
+{
+    match child {
+        Ref::Null => 0,
+        Ref::Id(_) => 1,
+    }
+}
+
+// The identifier that a body has for a child: null for null, else the next number with the same owner.
+fn number(child: Ref, counter: &mut Counter) -> Ref
+    requires { counter.old < 2 ^ 100 }
+    ensures value { result ≡ numbered_ref counter.old child }
+    ensures drawn { counter.new ≡ counter.old + drawn_by child }
+{
+    match child {
+        Ref::Null => Ref::Null,
+        Ref::Id(id) => Ref::Id(Id {
+            owner: id.owner,
+            number: counter.next(),
+        }),
+    }
+}
+
+impl Children {
+    // At most four references in order, with null past them.
+    pub fn of(children: &[Ref]) -> Children
+        requires { length children.now ≤ 4 }
+        ensures refs { refs_of result ≡ children.now }
+        ensures padded { AreNull (drop result.count (all_four result)) }
+    {
+        let null = Ref::Null;
+        let (count, first, second, third, fourth) = match children {
+            [] => (0, null, null, null, null),
+            [first] => (1, *first, null, null, null),
+            [first, second] => (2, *first, *second, null, null),
+            [first, second, third] => (3, *first, *second, *third, null),
+            [first, second, third, fourth, ..] => (4, *first, *second, *third, *fourth),
+        };
+        Children {
+            count,
+            first,
+            second,
+            third,
+            fourth,
+        }
+    }
+
+    // How many are not null.
+    pub fn present(&self) -> u32
+        ensures value { result ≡ present (all_four self.now) }
+        ensures few { result ≤ 4 }
+    {
+        draws(self.first) + draws(self.second) + draws(self.third) + draws(self.fourth)
+    }
+
+    // The identifiers that a body has for these children, numbered in order.
+    pub fn numbered(&self, counter: &mut Counter) -> Children
+        requires { counter.old < 2 ^ 99 + 2 }
+        ensures refs { all_four result ≡ numbered counter.old (all_four self.now) }
+        ensures count { result.count ≡ self.now.count }
+        ensures drawn { counter.new ≡ counter.old + present (all_four self.now) }
+    {
+        let first = number(self.first, counter);
+        let second = number(self.second, counter);
+        let third = number(self.third, counter);
+        let fourth = number(self.fourth, counter);
+        Children {
+            count: self.count,
+            first,
+            second,
+            third,
+            fourth,
+        }
+    }
+
+    // Child `j`, counted from 0.
+    pub fn get(&self, j: u32) -> Ref
+        requires { j < length (refs_of self.now) }
+        ensures { slice_get (refs_of self.now) j ≡ Some result }
+    {
+        match j {
+            0 => self.first,
+            1 => self.second,
+            2 => self.third,
+            _ => self.fourth,
+        }
+    }
+}

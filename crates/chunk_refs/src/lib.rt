@@ -1,0 +1,12 @@
+//! Names of registered bodies: each identifier names one body and has one holder, and a body goes when it is named no more.
+#![tactic(auto)]
+
+mod children;
+mod holder;
+mod parts;
+mod refs;
+#[cfg(test)]
+mod tests;
+
+pub use holder::Holder;
+pub use refs::Refs;
