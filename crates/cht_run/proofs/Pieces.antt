@@ -1,5 +1,5 @@
 -- A source that is read piece by piece.
-use Rattle.std.proofs.Common.{◌≡◌, ℕ, ◌+◌, ◌-◌, ◌^◌, ◌≤◌, ◌<◌, List, [], ◌++◌, length, take, drop, Option, Some, refl, sym, ap, ◌∙◌, subst, arith, take-add}
+use Rattle.std.proofs.Common.{◌≡◌, ℕ, ◌+◌, ◌^◌, ◌≤◌, ◌<◌, List, [], ◌++◌, length, take, drop, Option, Some, refl, sym, ap, ◌∙◌, subst, arith, take-add}
 use Rattle.std.proofs.lemmas.List.{length-append, length-take, drop-drop, length-drop, take_all, nil_from_length}
 use Rattle.cht_io.specs.Bytes.{Reads, ReadsFront}
 use Rattle.std.specs.Prelude.{Bool, true, false, Ok, Err}

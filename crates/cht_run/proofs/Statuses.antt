@@ -1,36 +1,29 @@
--- What the answers of a run's parts say of the whole run.
-use Rattle.std.proofs.Common.{◌≡◌, ℕ, ◌+◌, ◌^◌, ◌≤◌, ◌<◌, Bool, true, false, cond, leb, List, [], length, take, drop, map, Option, None, Some, refl, sym, ap, subst, ◌∙◌, inl, inr, arith}
-use Rattle.std.specs.Prelude.{◌⊎◌, nat_le, is_some, Ok, Err}
-use Rattle.std.specs.Global.{Vec}
+-- What the answers of the run's parts say of its input.
+use Rattle.std.proofs.Common.{◌≡◌, ℕ, ◌+◌, ◌^◌, ◌≤◌, ◌<◌, Bool, true, false, cond, List, [], length, take, drop, Option, None, Some, refl, sym, ap, subst, ◌∙◌, inl, inr, arith}
+use Rattle.std.specs.Prelude.{◌⊎◌, option_map, map, Err}
 use Rattle.std.proofs.lemmas.Bool.{cases_lt, le-leb, lt-leb}
 use Rattle.std.proofs.lemmas.List.{take_all, length-take, length-drop, nil_from_length}
-use Rattle.dense_def.specs.Matrix.{Matrix, height}
-use Rattle.dense_def.proofs.Entries.{height-made}
 use Rattle.cht_io.specs.Bytes.{Adds, AddsFront}
-use Rattle.mm_text.specs.declared.market.Cell.{Cell}
-use Rattle.mm_text.specs.declared.market.Market.{Market}
-use Rattle.mm_text.specs.declared.market.Form.TheVariants.{General}
-use Rattle.mm_text.specs.Block.{Block, matrix_of, value_at}
-use Rattle.mm_text.specs.Cells.{cells_of, cell_of, entry_cells}
-use Rattle.mm_text.specs.Written.{text_of_cells, general_text}
-use Rattle.mm_text.specs.Reading.{IsMarketOf}
+use Rattle.cht_script.specs.Verdict.{is_runnable}
+use Rattle.cht_script.specs.Meaning.{told_by, told_of}
+use Rattle.cht_script.specs.declared.script.Script.{Script}
+use Rattle.cht_script.specs.Reading.{deed_of, IsScriptOf, IsLeastHeight}
 use Rattle.cht_run.specs.declared.reading.ReadStop.{ReadStop}
 use Rattle.cht_run.specs.declared.reading.ReadStop.TheVariants as stops
 use Rattle.cht_run.specs.declared.status.Fault.{Fault}
 use Rattle.cht_run.specs.declared.status.Status.{Status}
 use Rattle.cht_run.specs.declared.status.Status.TheVariants.{Done, Usage, Refused, ReadFault, WriteFault, Memory}
-use Rattle.cht_run.specs.Script.{Script, script_of}
-use Rattle.cht_run.specs.Verdict.{most_bytes, verdict, meaning, printed}
-use Rattle.cht_run.specs.Answers.{Answers, WasRead, ReadUpTo, WritesFront, status_for}
-use Rattle.cht_run.specs.Judged.{Judges, market_text}
+use Rattle.cht_run.specs.Verdict.{most_bytes, verdict, meaning, refusal, too_great}
+use Rattle.cht_run.specs.Answers.{Answers, WasRead, ReadUpTo, IsSilent, status_by, status_for}
+use Rattle.cht_run.specs.Judged.{Judges}
+use Rattle.cht_run.specs.Running.{Ran}
 use Rattle.cht_run.specs.Reading.{Stopped}
-use Rattle.cht_run.specs.Found.{FoundScript}
 
 -- ---- The text that was read, and the whole input
 
 -- a text that is too long
 long_verdict : (text : List ℕ) → 2 ^ 26 < length text → verdict text ≡ Some (record { line = 0; code = 1 })
-long_verdict text long = ap (λ (b : Bool). cond b (cond (is_some (script_of text)) None (Some (record { line = 0; code = 20 }))) (Some (record { line = 0; code = 1 }))) (lt-leb (length text) (2 ^ 26) long)
+long_verdict text long = ap (λ (b : Bool). cond b (cond (is_runnable text) None (Some (record { line = 0; code = 20 }))) (Some (record { line = 0; code = 1 }))) (lt-leb (length text) (2 ^ 26) long)
 
 short_input : (input : List ℕ) → length input ≤ 2 ^ 26 → take (2 ^ 26 + 1) input ≡ input
 short_input input short = take_all (2 ^ 26 + 1) input (omega arith)
@@ -69,11 +62,21 @@ is_good input text left e read good =
 pub judged_input : (status : Status) (input text : List ℕ) (left before after : Option (List ℕ)) → (text ≡ take (2 ^ 26 + 1) input) × WasRead input left
     → Judges status text before after → Answers status input left before after
 judged_input Done input text left before after read h =
-    let g = is_good input text left read.0 read.1 h.0 in
-    (g.all, g.good, subst (λ (t : List ℕ). Adds before (meaning t) after) g.same h.1)
+    let g = is_good input text left read.0 read.1 h.0 in (
+      subst (λ (t : List ℕ). refusal t ≡ None) g.same h.1,
+      (g.all, g.good, subst (λ (t : List ℕ). Adds before (meaning t) after) g.same h.2),
+    )
 judged_input Usage input text left before after read h = absurd h
 judged_input (Refused fault) input text left before after read h =
-    (read.1, sym (verdict_read input) ∙ ap verdict (sym read.0) ∙ h.0, h.1)
+    elim h [
+      | inl fixed ↦ inl (read.1, sym (verdict_read input) ∙ ap verdict (sym read.0) ∙ fixed.0, fixed.1)
+      | inr at_run ↦
+          let g = is_good input text left read.0 read.1 at_run.0 in
+          inr (
+            subst (λ (t : List ℕ). refusal t ≡ Some fault) g.same at_run.1,
+            (g.all, g.good, subst (λ (t : List ℕ). Adds before (meaning t) after) g.same at_run.2),
+          )
+    ]
 judged_input ReadFault input text left before after read h = absurd h
 judged_input WriteFault input text left before after read h =
     let g = is_good input text left read.0 read.1 h.0 in
@@ -94,42 +97,92 @@ pub read_memory : (input : List ℕ) (left : Option (List ℕ)) (stop : ReadStop
 read_memory input left stops.Failed is h = absurd cc
 read_memory input left stops.Memory is h = h
 
--- ---- The matrix that is printed
+-- ---- The run of a script
 
-script_verdict : (text : List ℕ) (script : Script) → script_of text ≡ Some script → length text ≤ 2 ^ 26 → verdict text ≡ None
-script_verdict text script is short = rw (le-leb (length text) (2 ^ 26) short, is) refl
+-- leaves reach the grid with at most 16 levels above them
+pub few_levels : (grid b h : ℕ) → 1 ≤ b → grid ≤ 4096 → IsLeastHeight grid b h → h ≤ 16
+few_levels grid b h some few levels =
+    elim (cases_lt 16 h) [
+      | inl high ↦ absurd (let under = levels.least 16 high in omega (arith, under))
+      | inr low ↦ low
+    ]
 
-script_text : (text : List ℕ) (script : Script) (market : Market) (cells : List Cell) → script_of text ≡ Some script → IsMarketOf script.block market
-    → cells ≡ map cell_of market.entries → market_text market cells ≡ meaning text
-script_text text script market cells is m c =
-    let listed : cells ≡ cells_of (matrix_of script.block) = c ∙ m.entries in
-    let rows : market.rows ≡ height (matrix_of script.block) = m.rows ∙ sym (height-made script.block.sizes.rows script.block.sizes.columns (λ i j. value_at script.block.entries (i + 1) (j + 1))) in
-    ap (λ (n : ℕ). text_of_cells General n market.columns cells) rows
-    ∙ ap (λ (n : ℕ). text_of_cells General (height (matrix_of script.block)) n cells) m.columns
-    ∙ ap (λ (cs : List Cell). text_of_cells General (height (matrix_of script.block)) script.block.sizes.columns cs) listed
-    ∙ ap printed (sym is)
+abbrev not_built : Option Fault
+not_built = Some (record { line = 0; code = 20 })
 
-pub judged_print : (status : Status) (text : List ℕ) (market : Market) (cells : List Cell) (before after : Option (List ℕ))
-    → (status ≡ Done) ⊎ (status ≡ WriteFault) → (status ≡ Done → Adds before (market_text market cells) after) → (status ≡ WriteFault → AddsFront before (market_text market cells) after)
-    → FoundScript text (Some market) → cells ≡ map cell_of market.entries → length text ≤ 2 ^ 26 → Judges status text before after
-judged_print Done text market cells before after either done fault found c short =
-    let good = script_verdict text found.0 found.1 short in
-    (good, subst (λ (t : List ℕ). Adds before t after) (script_text text found.0 market cells found.1 found.2 c) (done refl))
-judged_print WriteFault text market cells before after either done fault found c short =
-    let good = script_verdict text found.0 found.1 short in
-    (good, subst (λ (t : List ℕ). AddsFront before t after) (script_text text found.0 market cells found.1 found.2 c) (fault refl))
-judged_print Usage text market cells before after either done fault found c short = absurd (elim either [ inl e ↦ cc | inr e ↦ cc ])
-judged_print (Refused f) text market cells before after either done fault found c short = absurd (elim either [ inl e ↦ cc | inr e ↦ cc ])
-judged_print ReadFault text market cells before after either done fault found c short = absurd (elim either [ inl e ↦ cc | inr e ↦ cc ])
-judged_print Memory text market cells before after either done fault found c short = absurd (elim either [ inl e ↦ cc | inr e ↦ cc ])
+abbrev too_long : Option Fault
+too_long = Some (record { line = 0; code = 1 })
+
+script_verdict : (text : List ℕ) → is_runnable text ≡ true → length text ≤ 2 ^ 26 → verdict text ≡ None
+script_verdict text runs short =
+    ap (λ (b : Bool). cond b (cond (is_runnable text) None not_built) too_long) (le-leb (length text) (2 ^ 26) short)
+    ∙ ap (λ (b : Bool). cond b None not_built) runs
+
+-- a text that is no script that is run
+pub not_runnable : (text : List ℕ) → is_runnable text ≡ false → length text ≤ 2 ^ 26
+    → verdict text ≡ Some (record { line = 0; code = 20 })
+not_runnable text never short =
+    ap (λ (b : Bool). cond b (cond (is_runnable text) None not_built) too_long) (le-leb (length text) (2 ^ 26) short)
+    ∙ ap (λ (b : Bool). cond b None not_built) never
+
+too_great_is : (fault : Fault) → fault.code ≡ 19 → too_great fault.line ≡ fault
+too_great_is fault e = rw (← e) refl
+
+judged_told : (status : Status) (text : List ℕ) (before after : Option (List ℕ)) → verdict text ≡ None
+    → Ran status (told_of text) before after → Judges status text before after
+judged_told Done text before after good ran = (good, ap (option_map too_great) ran.0, ran.1)
+judged_told Usage text before after good ran = absurd ran
+judged_told (Refused fault) text before after good ran =
+    inr (good, ap (option_map too_great) ran.1 ∙ ap (λ f. Some f) (too_great_is fault ran.0), ran.2)
+judged_told ReadFault text before after good ran = absurd ran
+judged_told WriteFault text before after good ran = (good, ran)
+judged_told Memory text before after good ran = inr (good, ran)
+
+pub judged_run : (status : Status) (text : List ℕ) (script : Script) (before after : Option (List ℕ)) → IsScriptOf text script
+    → length text ≤ 2 ^ 26 → Ran status (told_by [] (map deed_of script.statements)) before after → Judges status text before after
+judged_run status text script before after is short ran =
+    judged_told status text before after (script_verdict text is.runnable short)
+    (subst (λ deeds. Ran status (told_by [] deeds) before after) is.deeds ran)
+
+-- a text that is too long
+pub too_long_text : (text : List ℕ) → 2 ^ 26 < length text → verdict text ≡ Some (record { line = 0; code = 1 })
+too_long_text text long = long_verdict text long
 
 -- ---- Where no device failed
 
 pub complete_answer : (status : Status) (input : List ℕ) (left before after : Option (List ℕ)) {P Q : Type 0} → (status ≡ Usage → ⊥) → Answers status input left before after
-    → (status ≡ ReadFault → P) → (status ≡ WriteFault → Q) → (P → ⊥) → (Q → ⊥) → (status ≡ status_for (verdict input)) ⊎ (status ≡ Memory)
-complete_answer Done input left before after usage h p q never_p never_q = inl (ap status_for (sym h.1))
+    → (status ≡ ReadFault → P) → (status ≡ WriteFault → Q) → (P → ⊥) → (Q → ⊥) → (status ≡ status_for input) ⊎ (status ≡ Memory)
+complete_answer Done input left before after usage h p q never_p never_q =
+    inl (sym (ap (λ v. status_by v (refusal input)) h.1.1 ∙ ap (status_by None) h.0))
 complete_answer Usage input left before after usage h p q never_p never_q = absurd (usage refl)
-complete_answer (Refused fault) input left before after usage h p q never_p never_q = inl (ap status_for (sym h.1))
+complete_answer (Refused fault) input left before after usage h p q never_p never_q =
+    inl
+    (sym (elim h [
+      | inl fixed ↦ ap (λ v. status_by v (refusal input)) fixed.1
+      | inr at_run ↦ ap (λ v. status_by v (refusal input)) at_run.1.1 ∙ ap (status_by None) at_run.0
+    ]))
 complete_answer ReadFault input left before after usage h p q never_p never_q = absurd (never_p (p refl))
 complete_answer WriteFault input left before after usage h p q never_p never_q = absurd (never_q (q refl))
 complete_answer Memory input left before after usage h p q never_p never_q = inr refl
+
+abbrev code_in : Option Fault → ℕ
+code_in None = 19
+code_in (Some fault) = fault.code
+
+refused_code_of : (refused : Option ℕ) (fault : Fault) → option_map too_great refused ≡ Some fault → fault.code ≡ 19
+refused_code_of None fault e = absurd cc
+refused_code_of (Some n) fault e = sym (ap code_in e)
+
+-- a judgment with nothing but a fault of the whole text, or code 19, leaves no text behind
+pub judged_silent : (status : Status) (text : List ℕ) (before after : Option (List ℕ)) → Judges status text before after → IsSilent status
+    → after ≡ before
+judged_silent Done text before after h silent = absurd silent
+judged_silent Usage text before after h silent = absurd h
+judged_silent (Refused fault) text before after h silent =
+    elim h [
+      | inl fixed ↦ fixed.1
+      | inr at_run ↦ absurd (silent (refused_code_of (told_of text).refused fault at_run.1))
+    ]
+judged_silent ReadFault text before after h silent = absurd h
+judged_silent WriteFault text before after h silent = absurd silent
+judged_silent Memory text before after h silent = absurd silent

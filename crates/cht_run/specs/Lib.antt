@@ -1,8 +1,14 @@
-pub mod Script
 pub mod Verdict
 pub mod Notes
 pub mod Answers
 pub mod Number
 pub mod Reading
-pub mod Found
 pub mod Judged
+pub mod Held
+pub mod Running
+pub mod Nodes
+pub mod Parts
+pub mod Numbers
+pub mod Bindings
+pub mod Listed
+pub mod Rows

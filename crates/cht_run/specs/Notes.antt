@@ -1,5 +1,5 @@
 -- The line about a run that ends otherwise than done.
-use Rattle.std.specs.Prelude.{◌≡◌, ◌⊎◌, ℕ, ◌==◌, if◌then◌else◌, List, [], ◌∷◌, ◌++◌, codes, Option, pos}
+use Rattle.std.specs.Prelude.{◌⊎◌, ℕ, ◌==◌, if◌then◌else◌, List, [], ◌∷◌, ◌++◌, codes, Option, pos}
 use Rattle.cht_ids.specs.Numeral.{number_text}
 use Rattle.cht_io.specs.Bytes.{Adds, AddsFront}
 use Rattle.cht_io.specs.Faults.{Rose}
@@ -9,7 +9,8 @@ use Rattle.cht_run.specs.declared.status.Status.TheVariants.{Done, Usage, Refuse
 
 -- the name of a fault's code
 abbrev pub fault_name : ℕ → List ℕ
-fault_name code = if code == 1 then codes "TooLong" else codes "NotBuilt"
+fault_name code =
+    if code == 1 then codes "TooLong" else if code == 19 then codes "Magnitude" else codes "NotBuilt"
 
 -- where a fault is, and which
 abbrev pub place_note : Fault → List ℕ

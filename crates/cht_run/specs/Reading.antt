@@ -1,5 +1,5 @@
 -- What reading a source to its end answers.
-use Rattle.std.specs.Prelude.{◌≡◌, ℕ, ◌+◌, ◌≤◌, Bool, true, false, List, [], take, drop, length, Option, Some, Result, Ok, Err}
+use Rattle.std.specs.Prelude.{◌≡◌, ℕ, ◌+◌, Bool, true, false, List, [], take, drop, length, Option, Some, Result, Ok, Err}
 use Rattle.std.specs.Global.{Vec}
 use Rattle.cht_run.specs.declared.reading.ReadStop.{ReadStop}
 use Rattle.cht_run.specs.declared.reading.ReadStop.TheVariants.{Failed, Memory}

@@ -1,7 +1,6 @@
 ghost use Rattle.std.specs.Prelude.{◌≡◌, ◌⊎◌, ◌↔◌, List, ℕ, Some, true, false, map};
 ghost use Rattle.std.specs.String.{string_bytes};
 ghost use Rattle.cht_io.specs.Faults.{Rose};
-ghost use Rattle.cht_run.specs.Verdict.{verdict};
 ghost use Rattle.cht_run.specs.Answers.{Answers, IsSilent, are_plain, status_for};
 ghost use Rattle.cht_run.specs.Notes.{Notes};
 
@@ -35,7 +34,7 @@ pub fn cht<S: Source, K: Sink, N: Sink>(
     // Where the words are a command and no device failed, the answer is the one for the input, or memory ran out.
     ensures complete { (input : List ℕ) → S.left source.old ≡ Some input → are_plain (map string_bytes words.now) ≡ true
         → ¬ Rose (S.faults source.old) (S.faults source.new) → ¬ Rose (K.faults out.old) (K.faults out.new)
-        → (result ≡ status_for (verdict input)) ⊎ (result ≡ Status.Memory) }
+        → (result ≡ status_for input) ⊎ (result ≡ Status.Memory) }
 
     ensures noted { Notes result (N.took notes.old) (N.took notes.new) (N.faults notes.old) (N.faults notes.new) }
 {

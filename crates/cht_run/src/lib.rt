@@ -1,12 +1,19 @@
 //! The run of a script, from the words of the command line and the bytes of a source to the bytes of a sink.
 #![tactic(auto)]
 
+mod binding;
+mod cells;
 mod command;
+mod held;
+mod library;
+mod listed;
 mod notes;
 mod plain;
 mod reading;
-mod script;
+mod recursion;
+mod run;
 mod status;
+mod tree;
 
 pub use command::cht;
 pub use plain::plain_call;

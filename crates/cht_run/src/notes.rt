@@ -68,10 +68,11 @@ fn code_number(code: u32) -> Short
 // The name of a fault.
 fn name_of(code: u32) -> &'static [u8]
     ensures name { result.now ≡ fault_name code }
-    ensures short { length result.now ≤ 8 }
+    ensures short { length result.now ≤ 9 }
 {
     match code {
         1 => b"TooLong",
+        19 => b"Magnitude",
         _ => b"NotBuilt",
     }
 }

@@ -1,23 +1,20 @@
-ghost use Rattle.std.specs.Prelude.{◌≡◌, ◌≢◌, ◌⊎◌, List, ℕ, Some, OnOk, OnErr, IfOk, map};
-ghost use Rattle.cht_io.specs.Bytes.{Adds, AddsFront};
+ghost use Rattle.std.specs.Prelude.{◌≡◌, ◌≢◌, ◌⊎◌, List, ℕ, Some};
 ghost use Rattle.cht_io.specs.Faults.{Rose};
-ghost use Rattle.mm_text.specs.Cells.{cell_of};
-ghost use Rattle.cht_run.specs.Verdict.{verdict};
 ghost use Rattle.cht_run.specs.Answers.{Answers, IsSilent, status_for};
-ghost use Rattle.cht_run.specs.Judged.{Judges, market_text};
+ghost use Rattle.cht_run.specs.Judged.{Judges};
 ghost use Rattle.cht_run.specs.Notes.{Notes};
 
 use crate::notes::tell;
 use crate::reading::{MOST_BYTES, ReadStop, read_all};
-use crate::script::read_script;
+use crate::run::run_script;
 use crate::status::{Fault, Status};
 use cht_ids::Memory;
-use cht_io::{Failed, Sink, Source};
-use mm_text::{Cell, Form, Market, write_market};
-use std::alloc::{AllocError, Global};
+use cht_io::{Sink, Source};
+use cht_script::read_script;
+use std::alloc::Global;
 
-/// Runs the script of a source on the calling thread: reads it to its end, prints its matrix to `out`, and writes one
-/// line to `notes` where it ends otherwise than done. It always returns.
+/// Runs the script of a source on the calling thread: reads it to its end, does its statements in order, up to the first
+/// that is refused, writes their text to `out`, and one line to `notes` where it ends otherwise than done. It always returns.
 pub fn plain_call<S: Source, K: Sink, N: Sink>(
     alloc: Global,
     source: &mut S,
@@ -37,7 +34,7 @@ pub fn plain_call<S: Source, K: Sink, N: Sink>(
     // Where no device failed, the answer is the one for the input, or memory ran out.
     ensures complete { (input : List ℕ) → S.left source.old ≡ Some input
         → ¬ Rose (S.faults source.old) (S.faults source.new) → ¬ Rose (K.faults out.old) (K.faults out.new)
-        → (result ≡ status_for (verdict input)) ⊎ (result ≡ Status.Memory) }
+        → (result ≡ status_for input) ⊎ (result ≡ Status.Memory) }
 
     ensures noted { Notes result (N.took notes.old) (N.took notes.new) (N.faults notes.old) (N.faults notes.new) }
 {
@@ -65,6 +62,7 @@ fn run<S: Source, K: Sink>(alloc: Global, source: &mut S, out: &mut K) -> Status
 // Runs the script that is this text.
 fn judge<K: Sink>(alloc: Global, text: &[u8], out: &mut K) -> Status
     ensures judged { Judges result text.now (K.took out.old) (K.took out.new) }
+    ensures silent { IsSilent result → K.took out.new ≡ K.took out.old }
     ensures write_fault { result ≡ Status.WriteFault → Rose (K.faults out.old) (K.faults out.new) }
 {
     if text.len() > MOST_BYTES {
@@ -73,38 +71,6 @@ fn judge<K: Sink>(alloc: Global, text: &[u8], out: &mut K) -> Status
     match read_script(alloc, text) {
         Err(Memory) => Status::Memory,
         Ok(None) => Status::Refused(Fault { line: 0, code: 20 }),
-        Ok(Some(market)) => match cells(alloc, &market) {
-            Err(_) => Status::Memory,
-            Ok(cells) => print(&market, &cells, out),
-        },
-    }
-}
-
-// The entries of a matrix as cells.
-fn cells(alloc: Global, market: &Market) -> Result<Vec<Cell>, AllocError>
-    ensures { IfOk result (λ cells. cells.items ≡ map cell_of market.now.entries) }
-{
-    market
-        .entries
-        .as_slice()
-        .iter()
-        .map(|entry| Cell {
-            row: entry.row,
-            column: entry.column,
-            value: entry.value as i128,
-        })
-        .collect(alloc)
-}
-
-// Prints a matrix of these cells.
-fn print<K: Sink>(market: &Market, cells: &[Cell], out: &mut K) -> Status
-    ensures done { result ≡ Status.Done → Adds (K.took out.old) (market_text market.now cells.now) (K.took out.new) }
-    ensures fault { result ≡ Status.WriteFault → AddsFront (K.took out.old) (market_text market.now cells.now) (K.took out.new) }
-    ensures cause { result ≡ Status.WriteFault → Rose (K.faults out.old) (K.faults out.new) }
-    ensures either { (result ≡ Status.Done) ⊎ (result ≡ Status.WriteFault) }
-{
-    match write_market(out, Form::General, market.rows, market.columns, cells) {
-        Ok(()) => Status::Done,
-        Err(Failed) => Status::WriteFault,
+        Ok(Some(script)) => run_script(alloc, &script, out),
     }
 }

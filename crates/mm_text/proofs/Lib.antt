@@ -1,9 +1,12 @@
 pub mod CellsMade
 pub mod Passing
-pub mod Words
-pub mod Rests
+pub mod Cutting
+pub mod Cursors
+pub mod LineRules
+pub mod Heads
 pub mod Gathered
+pub mod Refusals
 pub mod Order
 pub mod Values
 pub mod MatrixRead
-pub mod Refusals
+pub mod Rules

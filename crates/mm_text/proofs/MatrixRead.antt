@@ -1,17 +1,16 @@
 -- The entries that were read, in order and without zeros, are the numbers of the matrix of the block.
-use Rattle.std.proofs.Common.{◌≡◌, ◌⊎◌, inl, inr, ℕ, ◌+◌, ◌*◌, ◌^◌, ◌<◌, ◌≤◌, true, leb, List, [], ◌∷◌, length, map, take, drop, None, Some, IfSome, IsPermutation, ℤ, pos, negsuc, refl, sym, ◌∙◌, arith}
-use Rattle.std.specs.Prelude.{◌&&◌, option_and_then}
+use Rattle.std.proofs.Common.{◌≡◌, ◌⊎◌, inl, inr, ℕ, ◌+◌, ◌^◌, ◌<◌, ◌≤◌, true, leb, List, [], ◌∷◌, length, take, None, Some, IfSome, IsPermutation, ℤ, pos, negsuc, sym, ◌∙◌, arith}
+use Rattle.std.specs.Prelude.{option_and_then}
 use Rattle.std.specs.List.{filter, All, AllByRecursion}
-use Rattle.std.specs.Str.{bytes_eq}
 use Rattle.std.proofs.lemmas.Bool.{cases_Bool, cases_order, cond_both, cond-true, cond-false, and_parts, leb-true, ltb-true, true≢false, not-true}
 use Rattle.std.proofs.lemmas.List.Elements.{All-from_recursion, recursion_from_All}
 use Rattle.std.proofs.lemmas.List.Sorted.{All-permutation}
 use Rattle.mm_text.specs.declared.market.Entry.{Entry}
-use Rattle.mm_text.specs.Block.{Sizes, lies_within, natural, entry_from, entry_of, entries_in, three_of, sizes_from, sizes_of, sizes_in, block_in, have_no_repeats, value_at, matrix_of}
+use Rattle.mm_text.specs.Block.{Sizes, lies_within, natural, entry_from, three_of, is_inside, value_at, matrix_of}
+use Rattle.mm_text.specs.Steps.{entry_inside, entries_given, entries_in}
 use Rattle.mm_text.specs.declared.market.Form.TheVariants.{General}
-use Rattle.mm_text.specs.Written.{banner}
 use Rattle.mm_text.specs.Cells.{is_zero, cells_of, entry_cells}
-use Rattle.mm_text.specs.Places.{place_of, rise, is_number}
+use Rattle.mm_text.specs.Places.{have_no_repeats, place_of, rise, is_number}
 use Rattle.mm_text.proofs.CellsMade.{AreRising, AreWithin, AreNonZero, cells_of_made}
 use Rattle.mm_text.proofs.Gathered.{all_of-each}
 use Rattle.mm_text.proofs.Values.{value_at-IsPermutation, value_at-numbers, cell_at-entries}
@@ -30,10 +29,9 @@ within : (low high : ℕ) (z : ℤ) → lies_within low high z ≡ true → (low
 within low high (pos n) h = let p = and_parts _ _ h in (leb-true low n p.0, leb-true n high p.1)
 within low high (negsuc n) h = absurd (true≢false (sym h))
 
-entry_from-within : (sizes : Sizes) (n : ℤ × ℤ × ℤ) → IfSome (entry_from sizes n) (IsWithin sizes)
-entry_from-within sizes n =
-    let here = lies_within 1 sizes.rows n.0 && lies_within 1 sizes.columns n.1 in
-    cond_both here (Some (record { row = natural n.0; column = natural n.1; value = n.2 })) None (λ o. IfSome o (IsWithin sizes))
+entry_inside-within : (sizes : Sizes) (n : ℤ × ℤ × ℤ) → IfSome (entry_inside sizes n) (IsWithin sizes)
+entry_inside-within sizes n =
+    cond_both (is_inside sizes n) (Some (entry_from n)) None (λ o. IfSome o (IsWithin sizes))
     (λ h.
     let p = and_parts _ _ h in
     let row = within 1 sizes.rows n.0 p.0 in
@@ -41,15 +39,15 @@ entry_from-within sizes n =
     record { first_row = row.0; last_row = row.1; first_column = column.0; last_column = column.1 })
     (λ _. tt)
 
-lines-within : (sizes : Sizes) (lines : List (List ℕ)) → AllByRecursion (λ o. IfSome o (IsWithin sizes)) (map (entry_of sizes) lines)
+lines-within : (sizes : Sizes) (lines : List (ℕ × List ℕ)) → AllByRecursion (λ o. IfSome o (IsWithin sizes)) (entries_given sizes lines)
 lines-within sizes [] = tt
 lines-within sizes (line ∷ lines) =
-    (elim (three_of line) as (λ o. IfSome (option_and_then (entry_from sizes) o) (IsWithin sizes)) [ None ↦ tt | Some n ↦ entry_from-within sizes n ], lines-within sizes lines)
+    (elim (three_of line.1) as (λ o. IfSome (option_and_then (entry_inside sizes) o) (IsWithin sizes)) [ None ↦ tt | Some n ↦ entry_inside-within sizes n ], lines-within sizes lines)
 
-entries-within : (sizes : Sizes) (lines : List (List ℕ)) (es : List Entry) → entries_in sizes lines ≡ Some es → AllByRecursion (IsWithin sizes) es
+entries-within : (sizes : Sizes) (lines : List (ℕ × List ℕ)) (es : List Entry) → entries_in sizes lines ≡ Some es → AllByRecursion (IsWithin sizes) es
 entries-within sizes lines es h =
     elim (cases_Bool (leb sizes.entries (length lines))) [
-      | inl enough ↦ all_of-each (IsWithin sizes) (map (entry_of sizes) (take sizes.entries lines)) es (sym (cond-true _ _ _ enough) ∙ h) (lines-within sizes (take sizes.entries lines))
+      | inl enough ↦ all_of-each (IsWithin sizes) (entries_given sizes (take sizes.entries lines)) es (sym (cond-true _ _ _ enough) ∙ h) (lines-within sizes (take sizes.entries lines))
       | inr few ↦ absurd (let e : None ≡ Some es = sym (cond-false _ _ _ few) ∙ h in cc)
     ]
 
@@ -116,10 +114,10 @@ cells-rising k sizes (e ∷ f ∷ es) narrow h r =
 -- ---- The matrix
 
 -- entries of these lines that were put in order, without zeros, are the cells of the block's matrix
-pub market_cells : (sizes : Sizes) (lines : List (List ℕ)) (es fs : List Entry) → sizes.columns < 2 ^ 32 → entries_in sizes lines ≡ Some es
+pub market_cells : (sizes : Sizes) (lines : List (ℕ × List ℕ)) (es fs : List Entry) (taken : ℕ) → sizes.columns < 2 ^ 32 → entries_in sizes lines ≡ Some es
     → IsPermutation es fs → have_no_repeats es ≡ true → rise fs ≡ true
-    → entry_cells (filter is_number fs) ≡ cells_of (matrix_of (record { sizes = sizes; entries = es }))
-market_cells sizes lines es fs narrow read moved apart rises =
+    → entry_cells (filter is_number fs) ≡ cells_of (matrix_of (record { form = General; sizes = sizes; entries = es; lines = taken }))
+market_cells sizes lines es fs taken narrow read moved apart rises =
     let inside = within-numbers sizes fs (within-IsPermutation sizes es fs moved (entries-within sizes lines es read)) in
     sym (cells_of_made sizes.rows sizes.columns (value_at es) (entry_cells (filter is_number fs))
     (cells-rising 0 sizes (filter is_number fs) narrow inside (RiseFrom-numbers 0 fs (RiseFrom-all fs rises)))
@@ -127,34 +125,8 @@ market_cells sizes lines es fs narrow read moved apart rises =
     (cells-numbers fs)
     (λ i j. cell_at-entries i j (filter is_number fs) ∙ value_at-numbers i j fs (apart-IsPermutation es fs moved ∙ apart) ∙ value_at-IsPermutation i j es fs moved apart))
 
--- the sizes lie within the grid
-sizes_from-columns : (grid : ℕ) (n : ℤ × ℤ × ℤ) → IfSome (sizes_from grid n) (λ sizes. sizes.columns ≤ grid)
-sizes_from-columns grid n =
-    cond_both (lies_within 1 grid n.0 && lies_within 1 grid n.1 && lies_within 0 (natural n.0 * natural n.1) n.2)
-    (Some (record { rows = natural n.0; columns = natural n.1; entries = natural n.2 })) None (λ o. IfSome o (λ sizes. sizes.columns ≤ grid))
-    (λ h. (within 1 grid n.1 (and_parts _ _ (and_parts _ _ h).0).1).1)
-    (λ _. tt)
-
-sizes_of-columns : (grid : ℕ) (line : List ℕ) → IfSome (sizes_of grid line) (λ sizes. sizes.columns ≤ grid)
-sizes_of-columns grid line =
-    elim (three_of line) as (λ o. IfSome (option_and_then (sizes_from grid) o) (λ sizes. sizes.columns ≤ grid)) [ None ↦ tt | Some n ↦ sizes_from-columns grid n ]
-
-sizes_in-columns : (grid : ℕ) (lines : List (List ℕ)) → IfSome (sizes_in grid lines) (λ sizes. sizes.columns ≤ grid)
-sizes_in-columns grid [] = tt
-sizes_in-columns grid (first ∷ []) = tt
-sizes_in-columns grid (first ∷ second ∷ lines) =
-    cond_both (bytes_eq first (banner General)) (sizes_of grid second) None (λ o. IfSome o (λ sizes. sizes.columns ≤ grid)) (λ _. sizes_of-columns grid second) (λ _. tt)
-
-pub columns-narrow : (grid : ℕ) (lines : List (List ℕ)) (sizes : Sizes) → grid < 2 ^ 32 → sizes_in grid lines ≡ Some sizes → sizes.columns < 2 ^ 32
-columns-narrow grid lines sizes low read = let le = rw read at (sizes_in-columns grid lines) in omega (arith, le)
-
 -- the columns of entries lie within the columns of the matrix
-pub columns-within : (sizes : Sizes) (lines : List (List ℕ)) (es : List Entry) → sizes.columns < 2 ^ 32 → entries_in sizes lines ≡ Some es → All (λ e. e.column < 2 ^ 32) es
+pub columns-within : (sizes : Sizes) (lines : List (ℕ × List ℕ)) (es : List Entry) → sizes.columns < 2 ^ 32 → entries_in sizes lines ≡ Some es → All (λ e. e.column < 2 ^ 32) es
 columns-within sizes lines es narrow read =
     let inside = All-from_recursion (IsWithin sizes) es (entries-within sizes lines es read) in
     λ k d lt. omega (arith, (inside k d lt).last_column)
-
--- the block of the sizes and the entries that were read
-pub block_found : (grid : ℕ) (lines : List (List ℕ)) (sizes : Sizes) (es : List Entry) → sizes_in grid lines ≡ Some sizes → entries_in sizes (drop 2 lines) ≡ Some es → have_no_repeats es ≡ true
-    → block_in grid lines ≡ Some (record { sizes = sizes; entries = es })
-block_found grid lines sizes es head read apart = rw (head, read, apart) refl

@@ -7,8 +7,8 @@ use Rattle.std.proofs.lemmas.Bool.Decides.{nat_tests, same_from_decides}
 use Rattle.std.proofs.lemmas.List.Sorted.{IsPermutation-sym}
 use Rattle.std.proofs.lemmas.Map.Keys.{IsDistinct-IsPermutation}
 use Rattle.mm_text.specs.declared.market.Entry.{Entry}
-use Rattle.mm_text.specs.Block.{names, have_no_repeats}
-use Rattle.mm_text.specs.Places.{place_of, rise}
+use Rattle.mm_text.specs.Block.{names}
+use Rattle.mm_text.specs.Places.{have_no_repeats, place_of, rise}
 
 -- ---- Neighbours
 
@@ -75,13 +75,13 @@ rise_apart (e ∷ f ∷ es) k h narrow =
 -- ---- Permutations
 
 -- whether two entries name one place
-abbrev Alike : Entry → Entry → Bool
+abbrev pub Alike : Entry → Entry → Bool
 Alike e f = names e.row e.column f
 
 eqb_flips : (a b : ℕ) → eqb a b ≡ eqb b a
 eqb_flips a b = grind (arith, nat_tests)
 
-Alike_flips : (e f : Entry) → Alike e f ≡ Alike f e
+pub Alike_flips : (e f : Entry) → Alike e f ≡ Alike f e
 Alike_flips e f = rw (eqb_flips f.row e.row, eqb_flips f.column e.column) refl
 
 none_alike : (e : Entry) (es : List Entry) → list_any (Alike e) es ≡ false → AllByRecursion (λ f. Alike e f ≡ false) es

@@ -3,7 +3,7 @@ use Rattle.std.proofs.Common.{◌≡◌, Option, None, Some, Err, refl, sym, sub
 use Rattle.std.specs.Option.{ok_or}
 use Rattle.mm_text.specs.declared.market.MarketRefused.{MarketRefused}
 use Rattle.mm_text.specs.declared.market.MarketRefused.TheVariants.{Fault}
-use Rattle.mm_text.specs.Reading.{IsRefusalOf}
+use Rattle.mm_text.specs.Steps.{IsRefusalOf}
 
 -- the refusal where there is no block
 abbrev pub no_block : MarketRefused

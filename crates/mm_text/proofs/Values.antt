@@ -5,9 +5,9 @@ use Rattle.std.specs.List.{list_any, filter}
 use Rattle.std.proofs.lemmas.Bool.{cases_Bool, cond-true, cond-false, and_parts, or_parts, or_cases, or_right, or_left, eqb-true, not-true, not-false, both_ways, true≢false}
 use Rattle.std.proofs.lemmas.List.Sorted.{list_any-IsPermutation, Contains-permutation}
 use Rattle.mm_text.specs.declared.market.Entry.{Entry}
-use Rattle.mm_text.specs.Block.{names, have_no_repeats, value_at}
+use Rattle.mm_text.specs.Block.{names, value_at}
 use Rattle.mm_text.specs.Cells.{is_zero, entry_cells}
-use Rattle.mm_text.specs.Places.{is_number}
+use Rattle.mm_text.specs.Places.{have_no_repeats, is_number}
 use Rattle.mm_text.proofs.CellsMade.{cell_at}
 use Rattle.mm_text.proofs.Order.{apart-IsPermutation}
 

@@ -3,8 +3,14 @@
 //! The coordinate form with the field `integer` of the Matrix Market exchange format (NIST).
 #![tactic(auto)]
 
+mod banner;
 mod buffer;
+mod cursor;
 mod entries;
+mod head;
+mod lines;
+#[cfg(test)]
+mod lines_tests;
 mod market;
 mod numbers;
 mod places;
@@ -16,6 +22,7 @@ mod writing;
 #[cfg(test)]
 mod writing_tests;
 
+pub use lines::{is_text, next_line, next_word};
 pub use market::{Cell, Entry, Form, Market, MarketFault, MarketRead, MarketRefused};
 pub use reading::read_market;
 pub use writing::write_market;

@@ -1,16 +1,18 @@
 ghost use Rattle.std.specs.Prelude.{◌≡◌};
-ghost use Rattle.mm_text.specs.Block.{three_of, index_of};
+ghost use Rattle.mm_text.specs.Block.{three_of};
+ghost use Rattle.mm_text.specs.Steps.{index_of};
 
-use cht_ids::{cut_word, read_number};
+use crate::lines::next_word;
+use cht_ids::read_number;
 
-// The three numbers of a line, which stand in it with single spaces between them, and nothing else.
+// The three numbers of a line that has three words.
 pub(crate) fn three_numbers(line: &[u8]) -> Option<(i64, i64, i64)>
     ensures { result ≡ three_of line.now }
 {
-    let (first, behind_first) = cut_word(line);
-    let (second, behind_second) = cut_word(behind_first?);
-    let (third, behind_third) = cut_word(behind_second?);
-    if behind_third.is_some() {
+    let (first, behind_first) = next_word(line)?;
+    let (second, behind_second) = next_word(behind_first)?;
+    let (third, behind_third) = next_word(behind_second)?;
+    if next_word(behind_third).is_some() {
         return None;
     }
     Some((

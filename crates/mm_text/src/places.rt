@@ -1,7 +1,6 @@
 ghost use Rattle.std.specs.Prelude.{◌≡◌, ◌<◌, ◌^◌, All, IsPermutation};
 ghost use Rattle.std.specs.List.{filter};
-ghost use Rattle.mm_text.specs.Block.{have_no_repeats};
-ghost use Rattle.mm_text.specs.Places.{place_of, rise, is_number};
+ghost use Rattle.mm_text.specs.Places.{have_no_repeats, place_of, rise, is_number};
 
 use crate::market::Entry;
 

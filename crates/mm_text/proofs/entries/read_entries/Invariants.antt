@@ -1,11 +1,13 @@
-use Rattle.std.proofs.Common.{◌≡◌, map, take, Some}
-use Rattle.cht_ids.specs.Lines.{ended_lines}
-use Rattle.mm_text.specs.Block.{all_of, entry_of}
-use Rattle.mm_text.specs.Reading.{sizes_told, IsRest}
+use Rattle.std.proofs.Common.{◌≡◌, ◌≤◌, length, take, drop, Some}
+use Rattle.mm_text.specs.Block.{last_number}
+use Rattle.mm_text.specs.Steps.{Passes, sizes_told, lines_behind, filled, all_of, entries_given}
 use Rattle.mm_text.proofs.entries.read_entries.Given as goal
 
 abbrev pub invariant-loop : goal.invariant-loop
 invariant-loop l = record {
-  rest : IsRest l.counter l.bytes l.rest;
-  so_far : all_of (map (entry_of (sizes_told l.sizes)) (take l.counter (ended_lines l.bytes))) ≡ Some l.entries.items;
+  passes : Passes l.from.passed l.from.rest.now l.at.passed l.at.rest.now;
+  enough : l.counter ≤ length (filled (lines_behind l.from.passed l.from.rest.now));
+  left : drop l.counter (filled (lines_behind l.from.passed l.from.rest.now)) ≡ filled (lines_behind l.at.passed l.at.rest.now);
+  last : l.at.passed ≡ last_number l.from.passed (take l.counter (filled (lines_behind l.from.passed l.from.rest.now)));
+  so_far : all_of (entries_given (sizes_told l.sizes) (take l.counter (filled (lines_behind l.from.passed l.from.rest.now)))) ≡ Some l.entries.items;
 }

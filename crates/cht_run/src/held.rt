@@ -1,0 +1,120 @@
+ghost use Rattle.std.specs.Prelude.{◌≡◌, ◌<◌, ◌≤◌, [], length, IfOk, OnOk};
+ghost use Rattle.dense_def.specs.Matrix.{height};
+ghost use Rattle.mm_text.specs.Cells.{cells_of};
+ghost use Rattle.quad_matrix.specs.Spots.{side_of};
+ghost use Rattle.cht_script.specs.Reading.{name_bytes, IsGoodMarket, matrix_of_market};
+ghost use Rattle.cht_run.specs.Held.{with_matrix, matrix_at, IsBoundSum, IsTraceOf};
+
+use crate::binding::{Binding, listed, sum, trace};
+use crate::cells::cells_in;
+use cht_ids::Memory;
+use cht_script::Name;
+use mm_text::{Cell, Market};
+use std::alloc::Global;
+use std::marker::Model;
+
+/// The names that a script has bound, with their matrices as quadtrees. A binding has the number of its place, counted from 0.
+#[derive(Drop)]
+pub(crate) struct Held {
+    alloc: Global,
+    // The side of a leaf block, and how many levels the trees have above the leaves.
+    leaf: u32,
+    height: u32,
+    bindings: Vec<Binding>,
+}
+
+impl Model for Held {
+    ghost use Rattle.cht_run.specs.Held.{Environment};
+
+    ghost Value = { Environment };
+
+    ghost use Rattle.cht_run.specs.Bindings.{environment_of, AreHeld};
+
+    ghost view = { λ held. environment_of held.leaf held.height held.bindings.items };
+
+    ghost invariant = { λ held. AreHeld held.leaf held.height held.bindings.items };
+}
+
+impl Held {
+    /// No names, for leaf blocks of that side and so many levels above them. It takes no memory.
+    pub(crate) fn new(alloc: Global, leaf: u32, height: u32) -> Held
+        requires leaf { 1 ≤ leaf }
+        requires small { leaf ≤ 64 }
+        requires height { height ≤ 16 }
+        ensures { result ≡ record { side = side_of leaf height; known = [] } }
+    {
+        Held {
+            alloc,
+            leaf,
+            height,
+            bindings: Vec::new(alloc),
+        }
+    }
+
+    /// Binds a name to a matrix that a script lists. After `Memory` nothing has changed.
+    pub(crate) fn bind_market(&mut self, name: Name, market: &Market) -> Result<(), Memory>
+        requires { IsGoodMarket self.old.side market.now }
+        ensures bound { OnOk result (self.new ≡ with_matrix self.old (name_bytes name) (matrix_of_market market.now)) }
+    {
+        let binding = listed(self.alloc, self.leaf, self.height, name, market)?;
+        self.bindings.push(binding)?;
+        Ok(())
+    }
+
+    /// Binds a name to the sum of two matrices of one shape, and answers true; or false where the sum of their peaks exceeds
+    /// the limit, and then nothing changes.
+    pub(crate) fn bind_sum(&mut self, name: Name, first: u32, second: u32) -> Result<bool, Memory>
+        requires first { first < length self.old.known }
+        requires second { second < length self.old.known }
+        requires rows { height (matrix_at self.old first) ≡ height (matrix_at self.old second) }
+        requires columns { (matrix_at self.old first).columns ≡ (matrix_at self.old second).columns }
+        ensures { IfOk result (λ fits. IsBoundSum fits self.old (name_bytes name) first second self.new) }
+    {
+        let a = &self.bindings[first as usize];
+        let b = &self.bindings[second as usize];
+        match sum(self.alloc, self.leaf, self.height, name, a, b)? {
+            None => Ok(false),
+            Some(binding) => {
+                self.bindings.push(binding)?;
+                Ok(true)
+            }
+        }
+    }
+
+    /// The sum of the numbers on the diagonal of a square matrix; `None` where the number of rows times the peak exceeds the
+    /// limit.
+    pub(crate) fn trace(&self, slot: u32) -> Result<Option<i128>, Memory>
+        requires known { slot < length self.now.known }
+        requires square { height (matrix_at self.now slot) ≡ (matrix_at self.now slot).columns }
+        ensures { IfOk result (IsTraceOf (matrix_at self.now slot)) }
+    {
+        let binding = &self.bindings[slot as usize];
+        trace(self.alloc, self.leaf, self.height, binding)
+    }
+
+    /// How many rows and columns a matrix has.
+    pub(crate) fn shape(&self, slot: u32) -> (u32, u32)
+        requires { slot < length self.now.known }
+        ensures rows { result.0 ≡ height (matrix_at self.now slot) }
+        ensures columns { result.1 ≡ (matrix_at self.now slot).columns }
+    {
+        let binding = &self.bindings[slot as usize];
+        (binding.rows, binding.columns)
+    }
+
+    /// The numbers of a matrix that are not zero, row by row and within a row by rising column.
+    pub(crate) fn cells(&self, slot: u32) -> Result<Vec<Cell>, Memory>
+        requires { slot < length self.now.known }
+        ensures { IfOk result (λ cells. cells.items ≡ cells_of (matrix_at self.now slot)) }
+    {
+        let binding = &self.bindings[slot as usize];
+        cells_in(
+            self.alloc,
+            self.leaf,
+            self.height,
+            &binding.tree,
+            binding.rows,
+            binding.columns,
+        )
+    }
+}

@@ -1,0 +1,10 @@
+pub mod Verbs
+pub mod Places
+pub mod Sums
+pub mod Headings
+pub mod Judged
+pub mod Taken
+pub mod Cells
+pub mod BlockParts
+pub mod BlockTaken
+pub mod Whole
