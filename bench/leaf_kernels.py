@@ -9,45 +9,17 @@ nanoseconds and the ratio. Blocks have side 16, 32 and 64, dense or with one num
 Usage: bench/leaf_kernels.py [ROUNDS]
 """
 import os
-import shutil
 import subprocess
 import sys
 import tempfile
 
-TOP = os.path.dirname(os.path.dirname(os.path.abspath(__file__)))
+from parts import TOP, built
+
 PARTS = [
     ("main.rt.txt", "src/main.rt"),
     ("Fit.antt.txt", "specs/Fit.antt"),
     ("Answers.antt.txt", "proofs/fit/Answers.antt"),
 ]
-
-
-def built(folder):
-    """The program, proved and built in a copy of the crates below it."""
-    shutil.copy(os.path.join(TOP, "HANDLES"), folder)
-    for crate in ["cht_ids", "dense_def", "leaf_blocks"]:
-        shutil.copytree(
-            os.path.join(TOP, "crates", crate),
-            os.path.join(folder, "crates", crate),
-            ignore=shutil.ignore_patterns("out", "*.log"),
-        )
-    with open(os.path.join(TOP, "crates.txt")) as known, open(os.path.join(folder, "crates.txt"), "w") as crates:
-        for line in known:
-            if line.split(":")[0] in ["cht_ids", "dense_def", "leaf_blocks"]:
-                crates.write(line)
-        crates.write("leaf_bench: cht_ids dense_def leaf_blocks\n")
-    bench = os.path.join(folder, "crates", "leaf_bench")
-    for part, place in PARTS:
-        os.makedirs(os.path.dirname(os.path.join(bench, place)), exist_ok=True)
-        shutil.copy(os.path.join(TOP, "bench", "leaf_bench", part), os.path.join(bench, place))
-    with open(os.path.join(bench, "specs", "Lib.antt"), "w") as lib:
-        lib.write("pub mod Fit\n")
-    subprocess.run(["git", "init", "-q", folder], check=True)
-    made = subprocess.run(["rt", "run"], cwd=bench, stdout=subprocess.PIPE, stderr=subprocess.PIPE)
-    program = os.path.join(bench, "out", "leaf_bench")
-    if made.returncode != 0 or not os.path.exists(program):
-        sys.exit(made.stderr.decode()[-2000:])
-    return program
 
 
 def times(command):
@@ -66,7 +38,7 @@ def main():
     with tempfile.TemporaryDirectory() as folder:
         base = os.path.join(folder, "base")
         subprocess.run(["cc", "-O3", "-o", base, os.path.join(TOP, "bench", "leaf_kernels.c")], check=True)
-        ours = built(folder)
+        ours = built(folder, "leaf_bench", ["cht_ids", "dense_def", "leaf_blocks"], PARTS)
         best = [{}, {}]
         for _ in range(rounds):
             for least, command in zip(best, [[ours], [base]]):

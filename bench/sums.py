@@ -9,10 +9,9 @@ import random
 import subprocess
 import sys
 import tempfile
-import time
 
-TOP = os.path.dirname(os.path.dirname(os.path.abspath(__file__)))
-PROGRAM = os.path.join(TOP, "crates", "cht", "out", "cht")
+from parts import PROGRAM, TOP, compared
+
 BANNER = "%%MatrixMarket matrix coordinate integer general\n"
 
 
@@ -57,22 +56,6 @@ INPUTS = [
 ]
 
 
-def run(command, source, target):
-    """The best time of three runs in seconds, and the greatest peak of memory in MiB."""
-    best, peak = None, 0
-    for _ in range(3):
-        with open(source, "rb") as given, open(target, "wb") as taken:
-            start = time.monotonic()
-            child = subprocess.Popen(command, stdin=given, stdout=taken)
-            _, status, used = os.wait4(child.pid, 0)
-            spent = time.monotonic() - start
-        if status != 0:
-            sys.exit(f"{command[0]} ended with {status} on {source}")
-        best = spent if best is None else min(best, spent)
-        peak = max(peak, used.ru_maxrss / 1024)
-    return best, peak
-
-
 def main():
     if not os.path.exists(PROGRAM):
         sys.exit("build the program first: bin/cht plain < examples/first.cht")
@@ -83,11 +66,7 @@ def main():
             source = os.path.join(folder, "script")
             # A process of its own makes the input: the peak of a child counts the memory that its parent had.
             subprocess.run([sys.executable, __file__, "make", str(number), source], check=True)
-            ours = run([PROGRAM, "plain"], source, os.path.join(folder, "ours"))
-            base = run([plain], source, os.path.join(folder, "base"))
-            texts = [os.path.join(folder, "ours"), os.path.join(folder, "base")]
-            if subprocess.run(["cmp", "-s"] + texts).returncode != 0:
-                sys.exit(f"the two programs write different texts: {name}")
+            ours, base = compared(folder, plain, source, name)
             print(
                 f"{name}: cht {ours[0]:.3f} s, C++ {base[0]:.3f} s, ratio {ours[0] / base[0]:.2f};"
                 f" peak cht {ours[1]:.0f} MiB, C++ {base[1]:.0f} MiB"

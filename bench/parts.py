@@ -1,0 +1,70 @@
+"""What the benchmarks share: timing a program on an input, and a program proved and built over some of the crates."""
+import os
+import shutil
+import subprocess
+import sys
+import time
+
+TOP = os.path.dirname(os.path.dirname(os.path.abspath(__file__)))
+PROGRAM = os.path.join(TOP, "crates", "cht", "out", "cht")
+
+
+def best_run(command, source, target):
+    """The best time of three runs in seconds, and the greatest peak of memory in MiB."""
+    best, peak = None, 0
+    for _ in range(3):
+        with open(source, "rb") as given, open(target, "wb") as taken:
+            start = time.monotonic()
+            child = subprocess.Popen(command, stdin=given, stdout=taken)
+            _, status, used = os.wait4(child.pid, 0)
+            spent = time.monotonic() - start
+        if status != 0:
+            sys.exit(f"{command[0]} ended with {status} on {source}")
+        best = spent if best is None else min(best, spent)
+        peak = max(peak, used.ru_maxrss / 1024)
+    return best, peak
+
+
+def compared(folder, plain, source, name):
+    """Runs `cht plain` and the plain program on an input; their best times and peaks, where both write one text."""
+    texts = [os.path.join(folder, "ours"), os.path.join(folder, "base")]
+    ours = best_run([PROGRAM, "plain"], source, texts[0])
+    base = best_run([plain], source, texts[1])
+    if subprocess.run(["cmp", "-s"] + texts).returncode != 0:
+        sys.exit(f"the two programs write different texts: {name}")
+    return ours, base
+
+
+def built(folder, name, crates, parts):
+    """The program `name`, made of the files of bench/NAME, proved and built in a copy of the crates below it.
+
+    A repository of Rattle has sources in its crates alone, so the files have other endings in bench/. `crates` are the
+    crates that are copied; `parts` pairs each file with its place in the program's crate, of which those in specs/ and proofs/
+    are declared there.
+    """
+    shutil.copy(os.path.join(TOP, "HANDLES"), folder)
+    for crate in crates:
+        shutil.copytree(
+            os.path.join(TOP, "crates", crate),
+            os.path.join(folder, "crates", crate),
+            ignore=shutil.ignore_patterns("out", "*.log"),
+        )
+    with open(os.path.join(TOP, "crates.txt")) as known, open(os.path.join(folder, "crates.txt"), "w") as listed:
+        for line in known:
+            if line.split(":")[0] in crates:
+                listed.write(line)
+        listed.write(f"{name}: {' '.join(crates)}\n")
+    bench = os.path.join(folder, "crates", name)
+    for part, place in parts:
+        os.makedirs(os.path.dirname(os.path.join(bench, place)), exist_ok=True)
+        shutil.copy(os.path.join(TOP, "bench", name, part), os.path.join(bench, place))
+        kind, module = place.split("/")[0], place.split("/")[1]
+        if kind in ("specs", "proofs") and module.endswith(".antt"):
+            with open(os.path.join(bench, kind, "Lib.antt"), "a") as lib:
+                lib.write(f"pub mod {module[:-5]}\n")
+    subprocess.run(["git", "init", "-q", folder], check=True)
+    made = subprocess.run(["rt", "run"], cwd=bench, stdout=subprocess.PIPE, stderr=subprocess.PIPE)
+    program = os.path.join(bench, "out", name)
+    if made.returncode != 0 or not os.path.exists(program):
+        sys.exit((made.stdout + made.stderr).decode()[-4000:])
+    return program
