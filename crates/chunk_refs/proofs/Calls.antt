@@ -1,5 +1,5 @@
 -- What each public call makes of the names, from what its steps make of them.
-use Rattle.std.proofs.Common.{◌≡◌, ℕ, zero, suc, ◌<◌, ◌≤◌, Bool, true, false, cond, List, [], ◌∷◌, length, take, Option, Some, None, is_some, nat_eq, refl, sym, ap, ◌∙◌, arith, ◌+◌}
+use Rattle.std.proofs.Common.{IsSome, ◌≡◌, ℕ, zero, suc, ◌<◌, ◌≤◌, Bool, true, false, cond, List, [], ◌∷◌, length, take, Option, Some, None, is_some, nat_eq, refl, sym, ap, ◌∙◌, arith, ◌+◌, ◌↔◌}
 use Rattle.std.specs.Prelude.{slice_get, map as each}
 use Rattle.std.specs.Option.{option_map, ForSome}
 use Rattle.std.specs.Map.{lookup}
@@ -17,7 +17,7 @@ use Rattle.chunk_refs.specs.declared.parts.Parts.{Parts}
 use Rattle.chunk_refs.specs.Names.{Names, Naming, Registered, naming_at, body_at, naming_of, owned_by, IsLive, holder_of, body_named, registered_of, content_of, no_names, live_ids, live_bodies, body_of, children_of, children_in}
 use Rattle.chunk_refs.specs.Trees.{tree_named, led_to, grown, tree_within, body_tree, tree_of}
 use Rattle.chunk_refs.specs.Steps.{copied, registered, without_id, IsOutside, numbered}
-use Rattle.chunk_refs.specs.Reached.{is_reached, is_kept, swept}
+use Rattle.chunk_refs.specs.Reached.{is_reached, is_kept, swept, IsReached}
 use Rattle.chunk_refs.specs.Rules.{IsSound, AreWithin, AreReached}
 use Rattle.chunk_refs.specs.Others.{AreAllAsBefore, AreRestAsBefore, AreOthersLive}
 use Rattle.chunk_refs.specs.Inside.{names_of, shown_name, shown_chunk, refs_of, all_four, chunk_at, HasChain}
@@ -27,7 +27,7 @@ use Rattle.chunk_refs.proofs.Copies.{copied-here, bodies-with_naming}
 use Rattle.chunk_refs.proofs.Grown.{others-kept}
 use Rattle.chunk_refs.proofs.Ids.{get-ids_of}
 use Rattle.chunk_refs.proofs.Linked.{named-chunk}
-use Rattle.chunk_refs.proofs.Reaching.{outside-passes}
+use Rattle.chunk_refs.proofs.Reaching.{outside-passes, reached-from-test, reached-by, reached-to-test}
 use Rattle.chunk_refs.proofs.Sound.{sound-copied, sound-without, more-registered, nothing-left, new-body, new-naming}
 use Rattle.chunk_refs.proofs.Sweeping.{cond-some, body_at-swept, naming_at-swept}
 use Rattle.chunk_refs.proofs.Trees.{AreMore, same-within, same-children, body-tree-kept}
@@ -262,3 +262,19 @@ module _ {C : Type 0} where
 
   pub none-counted : (names : Names C) → names ≡ no_names → (live_ids names ≡ 0) × (live_bodies names ≡ 0)
   none-counted names none = (ap (λ (n : Names C). live_ids n) none ∙ map.len-empty nat_cmp Naming, ap (λ (n : Names C). live_bodies n) none ∙ map.len-empty nat_cmp (Registered C))
+
+  -- the bodies that a sweep leaves are those that are reached
+  pub swept-bodies : (arity : C → ℕ) (names : Names C) (number : ℕ) → IsSound arity names → IsSome (body_at (swept names) number) ↔ IsReached names number
+  swept-bodies arity names number sound = (
+    (λ some.
+        let body = some_value (body_at (swept names) number) some in
+        reached-from-test names number (cond-some (is_reached names number) (body_at names number) body.0 (sym (body_at-swept names number) ∙ body.1)).0),
+    (λ reached.
+        let by = reached-by names number reached in
+        let body = sound.named by.0 by.1 by.2 in
+        ap is_some (body_at-swept names number ∙ ap (λ b. cond b (body_at names number) None) (reached-to-test arity names number sound reached) ∙ ap (body_at names) (sym by.3) ∙ body.1)),
+  )
+
+  pub delete-bodies : (arity : C → ℕ) (names : Names C) (id : Id) (number : ℕ) → IsSound arity names → IsLive names id → ForSome (holder_of names id) IsOutside
+      → IsSome (body_at (swept (without_id names id.number)) number) ↔ IsReached (without_id names id.number) number
+  delete-bodies arity names id number sound live outside = swept-bodies arity (without_id names id.number) number (sound-gone arity names id sound live outside)

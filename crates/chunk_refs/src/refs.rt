@@ -1,11 +1,11 @@
-ghost use Rattle.std.specs.Prelude.{◌≡◌, ◌↔◌, ℕ, ◌+◌, ◌≤◌, ◌<◌, ◌^◌, length, map as each, slice_get, Some, None, IfOk, OnOk, OnErr, IsOk};
+ghost use Rattle.std.specs.Prelude.{◌≡◌, ◌↔◌, ℕ, ◌+◌, ◌≤◌, ◌<◌, ◌^◌, length, map as each, slice_get, Some, None, IsSome, IfOk, OnOk, OnErr, IsOk};
 ghost use Rattle.std.specs.Option.{ForSome};
 ghost use Rattle.cht_ids.specs.declared.refs.Ref.TheVariants.{Id as Held};
 ghost use Rattle.task_types.specs.Tree.{rooted, child};
-ghost use Rattle.chunk_refs.specs.Names.{Naming, naming_at, IsLive, AreLive, holder_of, body_of, content_of, children_of, no_names, workers_of, spare_of, live_ids, live_bodies, IsAtLeast, IsLeft};
+ghost use Rattle.chunk_refs.specs.Names.{Naming, naming_at, body_at, IsLive, AreLive, holder_of, body_of, content_of, children_of, no_names, workers_of, spare_of, live_ids, live_bodies, IsAtLeast, IsLeft};
 ghost use Rattle.chunk_refs.specs.Trees.{tree_of};
 ghost use Rattle.chunk_refs.specs.Steps.{IsOutside, present, numbered, registered, copied, without_id};
-ghost use Rattle.chunk_refs.specs.Reached.{swept};
+ghost use Rattle.chunk_refs.specs.Reached.{IsReached, swept};
 ghost use Rattle.chunk_refs.specs.Rules.{IsSound, AreReached, AreWithin};
 ghost use Rattle.chunk_refs.specs.Others.{AreAllAsBefore, AreRestAsBefore, AreOthersLive};
 
@@ -152,6 +152,7 @@ impl<C: Payload> Refs<C> {
         requires live { IsLive self.old.names id }
         requires holder { ForSome (holder_of self.old.names id) IsOutside }
         ensures names { self.new.names ≡ swept (without_id self.old.names id.number) }
+        ensures bodies { (number : ℕ) → IsSome (body_at self.new.names number) ↔ IsReached (without_id self.old.names id.number) number }
 
         // The identifier itself goes, and every other one that a caller or a task holds stays. What stays is held by
         // whom it was and leads where it led.

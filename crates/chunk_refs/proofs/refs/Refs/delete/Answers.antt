@@ -1,9 +1,11 @@
-use Rattle.std.proofs.Common.{◌≡◌, None, sym, subst}
-use Rattle.chunk_refs.specs.Names.{Contents, naming_at}
+use Rattle.chunk_refs.specs.Steps.{without_id}
+use Rattle.chunk_refs.specs.Reached.{IsReached, swept}
+use Rattle.std.proofs.Common.{◌≡◌, None, sym, subst, IsSome, ◌↔◌, ◌∙◌, ap}
+use Rattle.chunk_refs.specs.Names.{Contents, naming_at, body_at}
 use Rattle.chunk_refs.specs.Others.{AreOthersLive, AreRestAsBefore}
 use Rattle.chunk_refs.specs.Rules.{IsSound, AreWithin}
 use Rattle.chunk_refs.specs.Inside.{names_of}
-use Rattle.chunk_refs.proofs.Calls.{delete-gone, delete-others, delete-rest, delete-within}
+use Rattle.chunk_refs.proofs.Calls.{delete-gone, delete-others, delete-rest, delete-within, delete-bodies}
 use Rattle.chunk_refs.proofs.refs.Refs.delete.Goals as goal
 
 pub returns-clause-gone : goal.returns-clause-gone
@@ -25,3 +27,10 @@ pub returns-clause-numbered : goal.returns-clause-numbered
 returns-clause-numbered g c = λ bound within.
     subst (λ names. AreWithin names bound) (sym c.delete.ensures.names)
     (delete-within (names_of c.self.inside.parts) c.args.id.number bound (subst (λ (v : Contents g.row.C.Denot). AreWithin v.names bound) (sym c.self.view_is) within))
+
+pub returns-clause-bodies : goal.returns-clause-bodies
+returns-clause-bodies g c = λ number.
+    let sound = subst (λ (v : Contents g.row.C.Denot). IsSound g.C.Payload.arity v.names) c.self.view_is c.self.invariant.1 in
+    let made = c.delete.ensures.names ∙ ap (λ (v : Contents g.row.C.Denot). swept (without_id v.names c.args.id.number)) c.self.view_is in
+    subst (λ names. IsSome (body_at names number) ↔ IsReached (without_id c.args.self.now.names c.args.id.number) number) (sym made)
+    (delete-bodies g.C.Payload.arity c.args.self.now.names c.args.id number sound c.requires.live c.requires.holder)
