@@ -107,6 +107,11 @@ const UPPER: [i128; 16] = [0, 0, 1, 2, 0, 0, 3, 4, 5, 0, 0, 0, 0, 0, 0, -7];
 
 const LOWER: [i128; 16] = [0, 0, -1, -2, 0, 6, -3, -4, 0, 0, 0, 0, 8, 0, 0, 7];
 
+// Only the quadrants on the diagonal, and only the others.
+const ALONG: [i128; 16] = [3, 0, 0, 0, 0, 1, 0, 0, 0, 0, 0, 2, 0, 0, -6, 5];
+
+const ACROSS: [i128; 16] = [0, 0, 7, 0, 0, 0, 0, -1, 4, 0, 0, 0, 0, 9, 0, 0];
+
 #[test]
 fn sums_and_traces_are_those_of_dense_matrices(rt: HostRuntime) -> Result<(), Fail> {
     let alloc = rt.alloc();
@@ -137,6 +142,22 @@ fn sums_and_traces_are_those_of_dense_matrices(rt: HostRuntime) -> Result<(), Fa
     );
     let sum = zero.sum(&zero)?;
     assert!(rt; agree(alloc, &zero, &zero, &sum, sum.trace(), zero.trace()).map_err(|_| "memory")?);
+    Ok(())
+}
+
+#[test]
+fn quadrants_of_one_matrix_alone_stay_in_the_sum(rt: HostRuntime) -> Result<(), Fail> {
+    let alloc = rt.alloc();
+    let along = matrix(alloc, &ALONG)?;
+    let across = matrix(alloc, &ACROSS)?;
+    let sum = along.sum(&across)?;
+    assert!(rt;
+        agree(alloc, &along, &across, &sum, sum.trace(), along.trace()).map_err(|_| "memory")?
+    );
+    let sum = across.sum(&along)?;
+    assert!(rt;
+        agree(alloc, &across, &along, &sum, sum.trace(), across.trace()).map_err(|_| "memory")?
+    );
     Ok(())
 }
 

@@ -42,7 +42,7 @@ fn number(child: Ref, counter: &mut Counter) -> Ref
 }
 
 impl Children {
-    // At most four references in order, with null past them.
+    /// At most four references in order, with null past them.
     pub fn of(children: &[Ref]) -> Children
         requires { length children.now ≤ 4 }
         ensures refs { refs_of result ≡ children.now }
@@ -65,7 +65,7 @@ impl Children {
         }
     }
 
-    // How many are not null.
+    /// How many are not null.
     pub fn present(&self) -> u32
         ensures value { result ≡ present (all_four self.now) }
         ensures few { result ≤ 4 }
@@ -73,7 +73,7 @@ impl Children {
         draws(self.first) + draws(self.second) + draws(self.third) + draws(self.fourth)
     }
 
-    // The identifiers that a body has for these children, numbered in order.
+    /// The identifiers that a body has for these children, numbered in order.
     pub fn numbered(&self, counter: &mut Counter) -> Children
         requires { counter.old < 2 ^ 99 + 2 }
         ensures refs { all_four result ≡ numbered counter.old (all_four self.now) }
@@ -93,7 +93,7 @@ impl Children {
         }
     }
 
-    // Child `j`, counted from 0.
+    /// Child `j`, counted from 0.
     pub fn get(&self, j: u32) -> Ref
         requires { j < length (refs_of self.now) }
         ensures { slice_get (refs_of self.now) j ≡ Some result }

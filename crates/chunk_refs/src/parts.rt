@@ -69,7 +69,7 @@ fn write<C: Payload>(store: &mut Store<Chunk<C>>, key: u64, names: u64, next: Op
 }
 
 impl<C: Payload> Parts<C> {
-    // What a live identifier names, and where.
+    /// What a live identifier names, and where.
     pub fn name(&self, id: Id) -> Name
         requires { IsLive (names_of self.now) id }
         ensures name { naming_of (names_of self.now) id ≡ Some (shown_name result) }
@@ -233,7 +233,7 @@ impl<C: Payload> Parts<C> {
         reserved.unwrap();
     }
 
-    // One more identifier of the body that a live identifier names, with a number and a holder of its own.
+    /// One more identifier of the body that a live identifier names, with a number and a holder of its own.
     pub fn add(&mut self, from: u128, number: u128, holder: Holder)
         requires chain { HasChain self.old None }
         requires live { IsSome (naming_at (names_of self.old) from) }
@@ -282,7 +282,7 @@ impl<C: Payload> Parts<C> {
         );
     }
 
-    // Registers a body whose room is reserved, and answers its first identifier.
+    /// Registers a body whose room is reserved, and answers its first identifier.
     pub fn register(
         &mut self,
         counter: &mut Counter,
@@ -378,7 +378,7 @@ impl<C: Payload> Parts<C> {
         Ok(stores)
     }
 
-    // No identifiers and no bodies.
+    /// No identifiers and no bodies.
     pub fn new(alloc: Global, workers: u32) -> Result<Parts<C>, Memory>
         ensures names { IfOk result (λ parts. names_of parts ≡ no_names) }
         ensures chain { IfOk result (λ parts. HasChain parts None) }
@@ -392,7 +392,7 @@ impl<C: Payload> Parts<C> {
         })
     }
 
-    // Makes room for so many identifiers.
+    /// Makes room for so many identifiers.
     pub fn reserve_ids(&mut self, ids: u32) -> Result<(), Memory>
         requires { HasChain self.old None }
         ensures names { names_of self.new ≡ names_of self.old }
@@ -419,7 +419,7 @@ impl<C: Payload> Parts<C> {
         self.stores[worker as usize].reserve(bodies)
     }
 
-    // Makes room for so many bodies of a worker and so many identifiers.
+    /// Makes room for so many bodies of a worker and so many identifiers.
     pub fn reserve(&mut self, worker: u32, bodies: u32, ids: u32) -> Result<(), Memory>
         requires chain { HasChain self.old None }
         requires worker { worker < length self.old.stores.items }
@@ -434,7 +434,7 @@ impl<C: Payload> Parts<C> {
         self.reserve_bodies(worker, bodies)
     }
 
-    // The body that a live identifier names.
+    /// The body that a live identifier names.
     pub fn chunk_of(&self, id: Id) -> &Chunk<C>
         requires chain { HasChain self.now None }
         requires live { IsLive (names_of self.now) id }
@@ -444,7 +444,7 @@ impl<C: Payload> Parts<C> {
         self.chunk(name.owner, name.key)
     }
 
-    // Who holds an identifier; `None` exactly where it is not live.
+    /// Who holds an identifier; `None` exactly where it is not live.
     pub fn holder(&self, id: Id) -> Option<Holder>
         ensures { result ≡ holder_of (names_of self.now) id }
     {
@@ -460,7 +460,7 @@ impl<C: Payload> Parts<C> {
         }
     }
 
-    // Deletes a live identifier, and then every body that is not reached, with the identifiers that it holds.
+    /// Deletes a live identifier, and then every body that is not reached, with the identifiers that it holds.
     pub fn delete(&mut self, id: Id)
         requires chain { HasChain self.old None }
         requires sound { IsSound C.arity (names_of self.old) }
