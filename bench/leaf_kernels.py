@@ -8,12 +8,11 @@ nanoseconds and the ratio. Blocks have side 16, 32 and 64, dense or with one num
 
 Usage: bench/leaf_kernels.py [ROUNDS]
 """
-import os
 import subprocess
 import sys
 import tempfile
 
-from parts import TOP, built
+from parts import built, compiled
 
 PARTS = [
     ("main.rt.txt", "src/main.rt"),
@@ -36,8 +35,7 @@ def times(command):
 def main():
     rounds = int(sys.argv[1]) if len(sys.argv) > 1 else 5
     with tempfile.TemporaryDirectory() as folder:
-        base = os.path.join(folder, "base")
-        subprocess.run(["cc", "-O3", "-o", base, os.path.join(TOP, "bench", "leaf_kernels.c")], check=True)
+        base = compiled(folder, "cc", "leaf_kernels.c")
         ours = built(folder, "leaf_bench", ["cht_ids", "dense_def", "leaf_blocks"], PARTS)
         best = [{}, {}]
         for _ in range(rounds):

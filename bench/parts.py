@@ -25,8 +25,17 @@ def best_run(command, source, target):
     return best, peak
 
 
+def compiled(folder, compiler, source):
+    """The program of bench/SOURCE, built with that compiler into the folder."""
+    program = os.path.join(folder, "plain")
+    subprocess.run([compiler, "-O3", "-o", program, os.path.join(TOP, "bench", source)], check=True)
+    return program
+
+
 def compared(folder, plain, source, name):
     """Runs `cht plain` and the plain program on an input; their best times and peaks, where both write one text."""
+    if not os.path.exists(PROGRAM):
+        sys.exit("build the program first: bin/cht plain < examples/first.cht")
     texts = [os.path.join(folder, "ours"), os.path.join(folder, "base")]
     ours = best_run([PROGRAM, "plain"], source, texts[0])
     base = best_run([plain], source, texts[1])

@@ -10,7 +10,7 @@ import subprocess
 import sys
 import tempfile
 
-from parts import PROGRAM, TOP, compared
+from parts import compared, compiled
 
 BANNER = "%%MatrixMarket matrix coordinate integer general\n"
 
@@ -30,11 +30,8 @@ def script(path, side, count, ordered, wide):
 
 
 def main():
-    if not os.path.exists(PROGRAM):
-        sys.exit("build the program first: bin/cht plain < examples/first.cht")
     with tempfile.TemporaryDirectory() as folder:
-        plain = os.path.join(folder, "plain")
-        subprocess.run(["cc", "-O3", "-o", plain, os.path.join(TOP, "bench", "read_print.c")], check=True)
+        plain = compiled(folder, "cc", "read_print.c")
         inputs = [
             ("100,000 entries in order", 1024, 100_000, True, False),
             ("1,000,000 entries in order", 4096, 1_000_000, True, False),

@@ -10,7 +10,7 @@ import subprocess
 import sys
 import tempfile
 
-from parts import PROGRAM, TOP, compared
+from parts import compared, compiled
 
 BANNER = "%%MatrixMarket matrix coordinate integer general\n"
 
@@ -57,11 +57,8 @@ INPUTS = [
 
 
 def main():
-    if not os.path.exists(PROGRAM):
-        sys.exit("build the program first: bin/cht plain < examples/first.cht")
     with tempfile.TemporaryDirectory() as folder:
-        plain = os.path.join(folder, "plain")
-        subprocess.run(["c++", "-O3", "-o", plain, os.path.join(TOP, "bench", "sums.cpp")], check=True)
+        plain = compiled(folder, "c++", "sums.cpp")
         for number, (name, _) in enumerate(INPUTS):
             source = os.path.join(folder, "script")
             # A process of its own makes the input: the peak of a child counts the memory that its parent had.
