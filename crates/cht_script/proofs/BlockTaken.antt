@@ -1,5 +1,5 @@
 -- What a block adds to a reader.
-use Rattle.std.proofs.Common.{◌≡◌, ℕ, zero, suc, ◌+◌, ◌-◌, ◌≤◌, Bool, true, false, List, [], ◌∷◌, ◌++◌, length, map, take, drop, Some, Ok, refl, sym, ap, ◌∙◌, subst, arith}
+use Rattle.std.proofs.Common.{◌≡◌, ℕ, zero, suc, ◌+◌, ◌-◌, ◌≤◌, Bool, true, false, List, [], ◌∷◌, ◌++◌, length, map, take, drop, Some, Ok, ℤ, refl, sym, ap, ap₂, ◌∙◌, subst, arith}
 use Rattle.std.proofs.lemmas.List.{drop-map, length-drop, take_all}
 use Rattle.dense_def.specs.Matrix.{Matrix}
 use Rattle.dense_def.proofs.Entries.{made_same}
@@ -9,7 +9,7 @@ use Rattle.mm_text.specs.declared.market.Market.{Market}
 use Rattle.mm_text.specs.declared.market.MarketRead.{MarketRead}
 use Rattle.mm_text.specs.Lines.{cut_lines, lines_of, words_of, without_return}
 use Rattle.mm_text.specs.Block as listing
-use Rattle.mm_text.specs.Cells.{cells_of}
+use Rattle.mm_text.specs.Cells.{cells_listed}
 use Rattle.mm_text.specs.Reading.{IsMarketOf, IsBlockRead}
 use Rattle.cht_script.specs.declared.reader.Reader.{Reader}
 use Rattle.cht_script.specs.declared.script.Name.{Name}
@@ -18,8 +18,8 @@ use Rattle.cht_script.specs.Words.{is_name}
 use Rattle.cht_script.specs.Statements as say
 use Rattle.cht_script.specs.Statements.{is_general, said_in}
 use Rattle.cht_script.specs.Items.{Item, Block, item_of, items_in, lines_taken}
-use Rattle.cht_script.specs.Verdict.{Bound, bound, bound_by, is_known, shape_of_block}
-use Rattle.cht_script.specs.Meaning.{Binds, deeds_in}
+use Rattle.cht_script.specs.Verdict.{NamedShape, with_shape, bound_by, is_known, shape_of_block}
+use Rattle.cht_script.specs.Meaning.{Lists, deeds_in}
 use Rattle.cht_script.specs.Reading.{name_bytes, matrix_of_market, shape_of_market, IsGoodMarket}
 use Rattle.cht_script.specs.Progress.{IsJudged, item_at, IsTaken}
 use Rattle.cht_script.proofs.Cells.{value_at-made}
@@ -31,10 +31,13 @@ use Rattle.cht_script.proofs.Places.{new_name}
 -- the entries that were read give the matrix of the block
 matrix_read : (block : listing.Block) (market : Market) → block.form ≡ General → IsMarketOf block market → matrix_of_market market ≡ listing.matrix_of block
 matrix_read block market general is =
-    made_same market.rows market.columns block.sizes.rows block.sizes.columns
-    (λ i j. listing.value_at market.entries (i + 1) (j + 1)) (λ i j. listing.number_in block block.form (i + 1) (j + 1)) is.rows is.columns
+    let f : ℕ → ℕ → ℤ = λ i j. listing.number_listed block.form block.entries (i + 1) (j + 1) in
+    let cells = is.entries ∙ ap (λ form. cells_listed form (listing.matrix_of block)) general in
+    ap (λ form. listing.matrix_listed form market.rows market.columns market.entries) (is.form ∙ general)
+    ∙ made_same market.rows market.columns block.sizes.rows block.sizes.columns
+    (λ i j. listing.value_at market.entries (i + 1) (j + 1)) f is.rows is.columns
     (λ i j row column.
-    value_at-made block.sizes.rows block.sizes.columns (λ i j. listing.number_in block block.form (i + 1) (j + 1)) market.entries is.entries i j
+    value_at-made block.sizes.rows block.sizes.columns f market.entries cells i j
     (omega (arith, is.rows)) (omega (arith, is.columns)))
 
 market_good : (grid : ℕ) (lines : List (List ℕ)) (block : listing.Block) (market : Market) → listing.block_in grid lines ≡ Ok block → block.form ≡ General → IsMarketOf block market
@@ -45,7 +48,7 @@ market_good grid lines block market found general is =
       general = is.form ∙ general;
       rows = rw is.rows sizes.rows;
       columns = rw is.columns sizes.columns;
-      entries = is.entries ∙ ap cells_of (sym (matrix_read block market general is));
+      entries = is.entries ∙ ap₂ cells_listed (sym is.form) (sym (matrix_read block market general is));
     }
 
 -- ---- The lines behind it
@@ -70,18 +73,18 @@ block_item : (grid n : ℕ) (line word : List ℕ) (lines : List (List ℕ)) →
 block_item grid n line word lines said name = rw (said, name) refl
 
 -- whether a block of a new name is sound
-block_judged : (known : List Bound) (n : ℕ) (word : List ℕ) (block : listing.Block) → is_known known word ≡ false
+block_judged : (known : List NamedShape) (n : ℕ) (word : List ℕ) (block : listing.Block) → is_known known word ≡ false
     → IsJudged known (Block n word (Ok block)) (is_general block.form)
 block_judged known n word block fresh before run bound = rw (bound, fresh) refl
 
-abbrev Judged : List Bound → Bool → Item → Type 0
+abbrev Judged : List NamedShape → Bool → Item → Type 0
 Judged known sound item = IsJudged known item sound
 
 same_shape : (a b : say.Shape) → a.rows ≡ b.rows → a.columns ≡ b.columns → a.form ≡ b.form → a ≡ b
 same_shape a b rows columns form = λ i. record { rows = rows i; columns = columns i; form = form i }
 
-same_binds : (n : ℕ) (a b : List ℕ) (f g : Form) (m k : Matrix) → a ≡ b → f ≡ g → m ≡ k → Binds n a f m ∷ [] ≡ Binds n b g k ∷ []
-same_binds n a b f g m k name form matrix = λ i. Binds n (name i) (form i) (matrix i) ∷ []
+same_lists : (n : ℕ) (a b : List ℕ) (f g : Form) (m k : Matrix) → a ≡ b → f ≡ g → m ≡ k → Lists n a f m ∷ [] ≡ Lists n b g k ∷ []
+same_lists n a b f g m k name form matrix = λ i. Lists n (name i) (form i) (matrix i) ∷ []
 
 -- ---- A line that says `market`
 
@@ -89,7 +92,7 @@ same_binds n a b f g m k name form matrix = λ i. Binds n (name i) (form i) (mat
 pub record IsBehind (old new : Reader) (word : List ℕ) (to : Name) (read : MarketRead) : Type 0 where
   pub rest : new.rest.now ≡ drop read.bytes old.rest.now
   pub lines : new.lines ≡ old.lines + read.lines
-  pub bound : new.bound ≡ old.bound ++ bound (shape_of_market read.market) word ∷ []
+  pub bound : new.bound ≡ old.bound ++ with_shape (shape_of_market read.market) word ∷ []
   pub statements : new.statements ≡ old.statements ++ statements.Market old.lines to read.market ∷ []
   pub grid : new.grid ≡ old.grid
 
@@ -115,10 +118,10 @@ block_taken line old new word to read said name bytes fresh is moved =
           ∙ (ap (λ k. items_in old.grid k 0 (drop is.block.lines lines)) (omega (arith, moved.lines, is.lines))
           ∙ ap (items_in old.grid (suc new.lines) 0) (ap (λ k. drop k lines) (sym is.lines) ∙ sym rest)));
       statement = statements.Market old.lines to read.market;
-      more = bound (shape_of_market read.market) word ∷ [];
-      deed = ap deeds_in item ∙ same_binds old.lines word (name_bytes to) is.block.form read.market.form (listing.matrix_of is.block) (matrix_of_market read.market)
+      more = with_shape (shape_of_market read.market) word ∷ [];
+      deed = ap deeds_in item ∙ same_lists old.lines word (name_bytes to) is.block.form read.market.form (listing.matrix_of is.block) (matrix_of_market read.market)
           (sym bytes) (sym is.market.form) (sym (matrix_read is.block read.market is.general is.market));
-      binds = ap (bound_by old.bound) item ∙ ap (λ shape. bound shape word ∷ []) shape;
+      binds = ap (bound_by old.bound) item ∙ ap (λ shape. with_shape shape word ∷ []) shape;
       good = (rw bytes (new_name old.bound word fresh), market_good old.grid lines is.block read.market is.found is.general is.market, rw bytes refl);
       statements = moved.statements;
       bound = moved.bound;

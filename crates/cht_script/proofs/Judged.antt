@@ -1,5 +1,5 @@
 -- Which lines are sound, from the names that are bound.
-use Rattle.std.proofs.Common.{◌≡◌, ℕ, Bool, true, false, not, cond, eqb, List, [], ◌∷◌, length, Option, None, Some, refl, sym, ap, ◌∙◌, inl, inr, arith}
+use Rattle.std.proofs.Common.{◌≡◌, ℕ, Bool, true, false, not, cond, eqb, List, [], ◌∷◌, ◌++◌, length, Option, None, Some, refl, sym, ap, ◌∙◌, inl, inr, arith}
 use Rattle.std.specs.Prelude.{◌&&◌, ◌||◌, is_none, codes, option_map, option_and_then}
 use Rattle.std.specs.List.{list_all}
 use Rattle.std.specs.Str.{bytes_eq}
@@ -11,39 +11,39 @@ use Rattle.cht_script.specs.declared.script.Verb.TheVariants.{Copy, Add, Mul, TM
 use Rattle.cht_script.specs.Words.{is_name}
 use Rattle.cht_script.specs.Statements.{Said, Market, Act, said_in, act_with, names_after, verb_named, is_square, shapes_fit, forms_fit}
 use Rattle.cht_script.specs.Items.{Item, Line, Block, fault_at}
-use Rattle.cht_script.specs.Verdict.{Bound, is_known, shape_in, deletes_said, deletes, is_deleted, rules_said, is_run_verb, is_run_said, is_run, line_code, item_fault}
+use Rattle.cht_script.specs.Verdict.{NamedShape, is_known, shape_in, deleted_by_verb, deleted_by_line, deleted_by, deleted_after, word_rules, name_rules_behind, name_rules, is_run_verb, is_run_said, is_run, line_code, item_fault}
 use Rattle.cht_script.specs.Steps.{is_sound_act}
 use Rattle.cht_script.specs.Progress.{IsJudged}
 
 -- ---- Nothing is deleted
 
 -- a statement that is run deletes nothing
-act_keeps : (name : List ℕ) (verb : Verb) (names : List (List ℕ)) → is_run_verb verb ≡ true → deletes_said name (Some (Act verb names)) ≡ false
-act_keeps name Copy names h = refl
-act_keeps name Add names h = refl
-act_keeps name Mul names h = refl
-act_keeps name TMul names h = refl
-act_keeps name MulT names h = refl
-act_keeps name Square names h = refl
-act_keeps name Full names h = refl
-act_keeps name Trace names h = refl
-act_keeps name Count names h = refl
-act_keeps name Print names h = refl
-act_keeps name Delete names h = absurd (true≢false (sym h))
+act_keeps : (verb : Verb) (names : List (List ℕ)) → is_run_verb verb ≡ true → deleted_by_verb verb names ≡ []
+act_keeps Copy names h = refl
+act_keeps Add names h = refl
+act_keeps Mul names h = refl
+act_keeps TMul names h = refl
+act_keeps MulT names h = refl
+act_keeps Square names h = refl
+act_keeps Full names h = refl
+act_keeps Trace names h = refl
+act_keeps Count names h = refl
+act_keeps Print names h = refl
+act_keeps Delete names h = absurd (true≢false (sym h))
 
-said_keeps : (name : List ℕ) (said : Option Said) → is_run_said said ≡ true → deletes_said name said ≡ false
-said_keeps name None h = refl
-said_keeps name (Some (Market names)) h = refl
-said_keeps name (Some (Act verb names)) h = act_keeps name verb names h
+said_keeps : (said : Option Said) → is_run_said said ≡ true → deleted_by_line said ≡ []
+said_keeps None h = refl
+said_keeps (Some (Market names)) h = refl
+said_keeps (Some (Act verb names)) h = act_keeps verb names h
 
-item_keeps : (name : List ℕ) (item : Item) → is_run item ≡ true → deletes name item ≡ false
-item_keeps name (Line n line) h = said_keeps name (said_in (words_of line)) h
-item_keeps name (Block n listed found) h = refl
+item_keeps : (item : Item) → is_run item ≡ true → deleted_by item ≡ []
+item_keeps (Line n line) h = said_keeps (said_in (words_of line)) h
+item_keeps (Block n listed found) h = refl
 
-pub not_deleted : (name : List ℕ) (before : List Item) → list_all is_run before ≡ true → is_deleted before name ≡ false
-not_deleted name [] h = refl
-not_deleted name (item ∷ before) h =
-    let p = and_parts _ _ h in rw (item_keeps name item p.0, not_deleted name before p.1) refl
+none_deleted : (before : List Item) → list_all is_run before ≡ true → deleted_after before ≡ []
+none_deleted [] h = refl
+none_deleted (item ∷ before) h =
+    let p = and_parts _ _ h in rw (item_keeps item p.0, none_deleted before p.1) refl
 
 -- ---- How many names a statement has
 
@@ -121,44 +121,42 @@ never_right : (a : Bool) → (a && false) ≡ false
 never_right true = refl
 never_right false = refl
 
--- what is left of the rules for a statement, behind items that are run
-abbrev Rules : Bool → List Bound → List Item → Verb → List (List ℕ) → Type 0
-Rules t known before verb names =
-    (is_none (first_code ((2, not t) ∷ rules_said known before (Act verb names))) && is_run_verb verb) ≡ (t && is_sound_act known verb names)
+-- what is left of the rules for a statement, where no name was deleted
+abbrev Rules : Bool → List NamedShape → Verb → List (List ℕ) → Type 0
+Rules t known verb names =
+    (is_none (first_code ((2, not t) ∷ word_rules (Act verb names) ++ name_rules known [] (Act verb names))) && is_run_verb verb) ≡ (t && is_sound_act known verb names)
 
-sum_judged : (t : Bool) (known : List Bound) (before : List Item) (names : List (List ℕ)) → list_all is_run before ≡ true → length names ≡ 3 → Rules t known before Add names
-sum_judged t known before [] run len = absurd (omega arith)
-sum_judged t known before (c ∷ []) run len = absurd (omega arith)
-sum_judged t known before (c ∷ a ∷ []) run len = absurd (omega arith)
-sum_judged t known before (c ∷ a ∷ b ∷ []) run len =
-    rw (not_deleted a before run, not_deleted b before run)
-    (sum_rules t (is_name c) (is_name a) (is_name b) (is_known known a) (is_known known b) (is_known known c)
-    (shapes_fit Add (shape_in known a) (shape_in known b)) (forms_fit Add (shape_in known a) (shape_in known b)))
-sum_judged t known before (c ∷ a ∷ b ∷ d ∷ names) run len = absurd (omega arith)
+sum_judged : (t : Bool) (known : List NamedShape) (names : List (List ℕ)) → length names ≡ 3 → Rules t known Add names
+sum_judged t known [] len = absurd (omega arith)
+sum_judged t known (c ∷ []) len = absurd (omega arith)
+sum_judged t known (c ∷ a ∷ []) len = absurd (omega arith)
+sum_judged t known (c ∷ a ∷ b ∷ []) len =
+    sum_rules t (is_name c) (is_name a) (is_name b) (is_known known a) (is_known known b) (is_known known c)
+    (shapes_fit Add (shape_in known a) (shape_in known b)) (forms_fit Add (shape_in known a) (shape_in known b))
+sum_judged t known (c ∷ a ∷ b ∷ d ∷ names) len = absurd (omega arith)
 
-trace_judged : (t : Bool) (known : List Bound) (before : List Item) (names : List (List ℕ)) → list_all is_run before ≡ true → length names ≡ 1 → Rules t known before Trace names
-trace_judged t known before [] run len = absurd (omega arith)
-trace_judged t known before (a ∷ []) run len =
-    rw (not_deleted a before run) (trace_rules t (is_name a) (is_known known a) (is_square (shape_in known a)))
-trace_judged t known before (a ∷ b ∷ names) run len = absurd (omega arith)
+trace_judged : (t : Bool) (known : List NamedShape) (names : List (List ℕ)) → length names ≡ 1 → Rules t known Trace names
+trace_judged t known [] len = absurd (omega arith)
+trace_judged t known (a ∷ []) len = trace_rules t (is_name a) (is_known known a) (is_square (shape_in known a))
+trace_judged t known (a ∷ b ∷ names) len = absurd (omega arith)
 
-print_judged : (t : Bool) (known : List Bound) (before : List Item) (names : List (List ℕ)) → list_all is_run before ≡ true → length names ≡ 1 → Rules t known before Print names
-print_judged t known before [] run len = absurd (omega arith)
-print_judged t known before (a ∷ []) run len = rw (not_deleted a before run) (print_rules t (is_name a) (is_known known a))
-print_judged t known before (a ∷ b ∷ names) run len = absurd (omega arith)
+print_judged : (t : Bool) (known : List NamedShape) (names : List (List ℕ)) → length names ≡ 1 → Rules t known Print names
+print_judged t known [] len = absurd (omega arith)
+print_judged t known (a ∷ []) len = print_rules t (is_name a) (is_known known a)
+print_judged t known (a ∷ b ∷ names) len = absurd (omega arith)
 
-verb_judged : (t : Bool) (known : List Bound) (before : List Item) (verb : Verb) (names : List (List ℕ)) → list_all is_run before ≡ true → length names ≡ names_after verb → Rules t known before verb names
-verb_judged t known before Copy names run len = never_both _ t
-verb_judged t known before Add names run len = sum_judged t known before names run len
-verb_judged t known before Mul names run len = never_both _ t
-verb_judged t known before TMul names run len = never_both _ t
-verb_judged t known before MulT names run len = never_both _ t
-verb_judged t known before Square names run len = never_both _ t
-verb_judged t known before Full names run len = never_both _ t
-verb_judged t known before Trace names run len = trace_judged t known before names run len
-verb_judged t known before Count names run len = never_both _ t
-verb_judged t known before Print names run len = print_judged t known before names run len
-verb_judged t known before Delete names run len = never_both _ t
+verb_judged : (t : Bool) (known : List NamedShape) (verb : Verb) (names : List (List ℕ)) → length names ≡ names_after verb → Rules t known verb names
+verb_judged t known Copy names len = never_both _ t
+verb_judged t known Add names len = sum_judged t known names len
+verb_judged t known Mul names len = never_both _ t
+verb_judged t known TMul names len = never_both _ t
+verb_judged t known MulT names len = never_both _ t
+verb_judged t known Square names len = never_both _ t
+verb_judged t known Full names len = never_both _ t
+verb_judged t known Trace names len = trace_judged t known names len
+verb_judged t known Count names len = never_both _ t
+verb_judged t known Print names len = print_judged t known names len
+verb_judged t known Delete names len = never_both _ t
 
 -- ---- Lines
 
@@ -167,12 +165,12 @@ is_none-map n None = refl
 is_none-map n (Some code) = refl
 
 -- a line that says a statement with a verb
-pub line_judged : (known : List Bound) (n : ℕ) (line : List ℕ) (verb : Verb) (names : List (List ℕ)) → said_in (words_of line) ≡ Some (Act verb names)
+pub line_judged : (known : List NamedShape) (n : ℕ) (line : List ℕ) (verb : Verb) (names : List (List ℕ)) → said_in (words_of line) ≡ Some (Act verb names)
     → IsJudged known (Line n line) (is_text line && is_sound_act known verb names)
 line_judged known n line verb names said before run bound =
     ap (λ b. b && is_run (Line n line)) (is_none-map n (line_code before line))
-    ∙ rw (said, bound) (verb_judged (is_text line) known before verb names run (names_said (words_of line) verb names said))
+    ∙ rw (said, bound, none_deleted before run) (verb_judged (is_text line) known verb names (names_said (words_of line) verb names said))
 
 -- a line that says nothing of this kind
-pub line_not_run : (known : List Bound) (n : ℕ) (line : List ℕ) → is_run (Line n line) ≡ false → IsJudged known (Line n line) false
+pub line_not_run : (known : List NamedShape) (n : ℕ) (line : List ℕ) → is_run (Line n line) ≡ false → IsJudged known (Line n line) false
 line_not_run known n line never before run bound = rw never (never_right (is_none (item_fault before (Line n line))))

@@ -1,4 +1,5 @@
 pub mod Verbs
+pub mod Newest
 pub mod Places
 pub mod Sums
 pub mod Headings

@@ -1,16 +1,16 @@
 -- A sum that breaks no rule.
-use Rattle.std.proofs.Common.{◌≡◌, ℕ, Bool, true, false, not, List, [], ◌∷◌, Some, refl, sym, ap, Bor}
+use Rattle.std.proofs.Common.{◌≡◌, ℕ, Bool, true, false, not, List, [], ◌∷◌, Some, refl, sym, ap, arith, Bor}
 use Rattle.std.specs.Prelude.{◌&&◌}
 use Rattle.std.proofs.lemmas.Bool.{and_parts, eqb-true, true≢false}
 use Rattle.mm_text.specs.declared.market.Form.{Form}
 use Rattle.mm_text.specs.declared.market.Form.TheVariants.{General, Symmetric}
-use Rattle.cht_script.specs.declared.bindings.Binding.{Binding}
+use Rattle.cht_script.specs.declared.known_names.Found.{Found}
 use Rattle.cht_script.specs.declared.script.Name.{Name}
 use Rattle.cht_script.specs.declared.script.Statement.TheVariants as statements
 use Rattle.cht_script.specs.declared.script.Verb.TheVariants.{Add}
 use Rattle.cht_script.specs.Words.{is_name}
 use Rattle.cht_script.specs.Statements.{Shape, are_same_form, shapes_fit, forms_fit}
-use Rattle.cht_script.specs.Verdict.{Bound, bound, is_known}
+use Rattle.cht_script.specs.Verdict.{NamedShape, with_shape, is_known}
 use Rattle.cht_script.specs.Meaning.{Acts}
 use Rattle.cht_script.specs.Reading.{name_bytes}
 use Rattle.cht_script.specs.Steps.{shape_told, IsFoundAt, IsAccepted}
@@ -39,7 +39,7 @@ pub record IsNamed (word : List ℕ) (name : Name) : Type 0 where
 all_true : (a b c d e f g : Bool) → a ≡ true → b ≡ true → c ≡ true → d ≡ true → e ≡ true → f ≡ false → g ≡ true → (a && b && c && d && e && not f && g) ≡ true
 all_true a b c d e f g p q r s t u v = rw (p, q, r, s, t, u, v) refl
 
-pub sum_accepted : (known : List Bound) (line : ℕ) (to : Bor (List ℕ)) (a b : List ℕ) (first second third : Name) (left right : Binding)
+pub sum_accepted : (known : List NamedShape) (line : ℕ) (to : Bor (List ℕ)) (a b : List ℕ) (first second third : Name) (left right : Found)
     → IsNamed to.now first → IsNamed a second → IsNamed b third → IsFoundAt known a left → IsFoundAt known b right → is_known known to.now ≡ false
     → (shapes_fit Add (shape_told left.shape) (shape_told right.shape) && forms_fit Add (shape_told left.shape) (shape_told right.shape)) ≡ true
     → IsAccepted known line Add (to.now ∷ a ∷ b ∷ [])
@@ -54,7 +54,7 @@ sum_accepted known line to a b first second third left right named_first named_s
       sound = all_true _ _ _ _ _ _ _ named_first.spelled named_second.spelled named_third.spelled found_left.is_bound found_right.is_bound fresh (rw (found_left.shape, found_right.shape) fits);
       fresh = fresh;
       deed = ap (λ xs. Acts line Add xs) names;
-      binds = ap (λ shape. bound shape to.now ∷ []) found_left.shape;
+      binds = ap (λ shape. with_shape shape to.now ∷ []) found_left.shape;
       good = λ grid. (
         shape_told left.shape,
         (
@@ -63,5 +63,6 @@ sum_accepted known line to a b first second third left right named_first named_s
           rw (named_third.bytes, same) found_right.at,
         ),
         rw named_first.bytes refl,
+        record { second = λ low. absurd (omega arith); third = λ low. absurd (omega arith); slot = λ low. absurd (omega arith) },
       );
     }

@@ -8,7 +8,7 @@ use Rattle.cht_script.specs.declared.script.Verb.{Verb}
 use Rattle.cht_script.specs.declared.shape.Shape as kept
 use Rattle.cht_script.specs.Statements.{Act, said_in}
 use Rattle.cht_script.specs.Items.{Item, Line, item_of, items_in, lines_taken}
-use Rattle.cht_script.specs.Verdict.{Bound, bound_by, bound_by_line}
+use Rattle.cht_script.specs.Verdict.{NamedShape, bound_by, bound_by_line}
 use Rattle.cht_script.specs.Meaning.{deeds_in, deeds_said}
 use Rattle.cht_script.specs.Steps.{new_told, is_sound_act, IsAccepted}
 use Rattle.cht_script.specs.Progress.{IsJudged, IsTaken, IsStopped}
@@ -21,7 +21,7 @@ act_item : (grid n : ℕ) (line : List ℕ) (lines : List (List ℕ)) (verb : Ve
 act_item grid n line lines verb names said = rw said refl
 
 -- what holds of the line's item
-abbrev Judged : List Bound → Bool → Item → Type 0
+abbrev Judged : List NamedShape → Bool → Item → Type 0
 Judged known sound item = IsJudged known item sound
 
 pub act_stopped : (line : List ℕ) (old : Reader) (verb : Verb) (names : List (List ℕ)) → said_in (words_of line) ≡ Some (Act verb names)

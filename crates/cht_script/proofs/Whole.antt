@@ -15,7 +15,7 @@ use Rattle.cht_script.specs.declared.script.Statement.{Statement}
 use Rattle.cht_script.specs.declared.script.Statement.TheVariants as statements
 use Rattle.cht_script.specs.Words.{is_skipped}
 use Rattle.cht_script.specs.Items.{Fault, Item, item_of, items_in, lines_taken}
-use Rattle.cht_script.specs.Verdict.{Bound, bound_by, known_after, item_fault, is_run}
+use Rattle.cht_script.specs.Verdict.{NamedShape, bound_by, known_after, item_fault, is_run}
 use Rattle.cht_script.specs.Meaning.{deeds_in}
 use Rattle.cht_script.specs.Reading.{deed_of, AreGood}
 use Rattle.cht_script.specs.Steps.{IsNext}
@@ -35,23 +35,23 @@ fault-append judge before (x ∷ xs) ys =
     ∙ ap (λ b. or_else (first_fault judge (before ++ x ∷ []) xs) (first_fault judge b ys)) (append_assoc before (x ∷ []) xs))
     ∙ or_else-assoc (judge before x) (first_fault judge (before ++ x ∷ []) xs) (first_fault judge (before ++ x ∷ xs) ys)
 
-known-append : (known : List Bound) (xs : List Item) (x : Item) → known_after known (xs ++ x ∷ []) ≡ known_after known xs ++ bound_by (known_after known xs) x
+known-append : (known : List NamedShape) (xs : List Item) (x : Item) → known_after known (xs ++ x ∷ []) ≡ known_after known xs ++ bound_by (known_after known xs) x
 known-append known [] x = refl
 known-append known (y ∷ xs) x = known-append (known ++ bound_by known y) xs x
 
-good-append : (grid : ℕ) (known : List Bound) (xs : List Statement) (after more : List Bound) (x : Statement) → AreGoodTo grid known xs after → IsNext grid after x more
+good-append : (grid : ℕ) (known : List NamedShape) (xs : List Statement) (after more : List NamedShape) (x : Statement) → AreGoodTo grid known xs after → IsNext grid after x more
     → AreGoodTo grid known (xs ++ x ∷ []) (after ++ more)
 good-append grid known [] after more x good next = (more, subst (λ k. IsNext grid k x more) (sym good) next, ap (λ k. k ++ more) good)
 good-append grid known (y ∷ xs) after more x good next = (good.0, good.1, good-append grid (known ++ good.0) xs after more x good.2 next)
 
 -- what is known of statements, without what they bind
-good_all : (grid : ℕ) (known : List Bound) (xs : List Statement) (after : List Bound) → AreGoodTo grid known xs after → AreGood grid known xs
+good_all : (grid : ℕ) (known : List NamedShape) (xs : List Statement) (after : List NamedShape) → AreGoodTo grid known xs after → AreGood grid known xs
 good_all grid known [] after good = tt
 good_all grid known (statements.Market line to market ∷ xs) after good =
     let more = good.1.2 in
     (good.1.0, good.1.1, subst (λ k. AreGood grid (known ++ k) xs) more (good_all grid (known ++ good.0) xs after good.2))
 good_all grid known (statements.Act line verb names inputs ∷ xs) after good =
-    (good.1.0, good.1.1, subst (λ k. AreGood grid (known ++ k) xs) good.1.2 (good_all grid (known ++ good.0) xs after good.2))
+    (good.1.0, good.1.1, subst (λ k. AreGood grid (known ++ k) xs) good.1.2 (good_all grid (known ++ good.0) xs after good.2), good.1.3)
 
 -- ---- One line
 

@@ -1,10 +1,11 @@
 pub mod Words
 pub mod Statements
 pub mod Items
+pub mod Newest
 pub mod Verdict
 pub mod Meaning
 pub mod Reading
 pub mod Limits
 pub mod Steps
 pub mod Progress
-pub mod Bindings
+pub mod KnownNames

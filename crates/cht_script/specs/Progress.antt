@@ -7,7 +7,7 @@ use Rattle.cht_script.specs.declared.heading.Heading as front
 use Rattle.cht_script.specs.declared.reader.Reader.{Reader}
 use Rattle.cht_script.specs.declared.script.Statement.{Statement}
 use Rattle.cht_script.specs.Items.{Item, item_of, items_in, items_behind, lines_taken}
-use Rattle.cht_script.specs.Verdict.{Bound, bound_by, known_after, item_fault, is_run}
+use Rattle.cht_script.specs.Verdict.{NamedShape, bound_by, known_after, item_fault, is_run}
 use Rattle.cht_script.specs.Meaning.{deeds_in}
 use Rattle.cht_script.specs.Reading.{deed_of, AreGood}
 use Rattle.cht_script.specs.Steps.{IsNext, heading_told}
@@ -23,7 +23,7 @@ abbrev pub are_sound : List Item → Bool
 are_sound items = is_none (first_fault item_fault [] items) && list_all is_run items
 
 -- whether an item is sound, behind any items that are run and bind these names
-abbrev pub IsJudged : List Bound → Item → Bool → Type 0
+abbrev pub IsJudged : List NamedShape → Item → Bool → Type 0
 IsJudged known item sound =
     (before : List Item) → list_all is_run before ≡ true → known_after [] before ≡ known → is_sound before item ≡ sound
 
@@ -39,7 +39,7 @@ pub record IsTaken (line : List ℕ) (old new : Reader) : Type 0 where
   pub behind : items_in old.grid (suc old.lines) (lines_taken (length (lines_of old.rest.now)) (item_at line old)) (lines_of old.rest.now)
       ≡ items_in old.grid (suc new.lines) 0 (lines_of new.rest.now)
   pub statement : Statement
-  pub more : List Bound
+  pub more : List NamedShape
   pub deed : deeds_in (item_at line old) ≡ deed_of statement ∷ []
   pub binds : bound_by old.bound (item_at line old) ≡ more
   pub good : IsNext old.grid old.bound statement more
@@ -69,10 +69,10 @@ pub record HasRoom (reader : Reader) : Type 0 where
 -- ---- All lines
 
 -- what is known of statements, where these names are bound, and which names are bound after them
-abbrev pub AreGoodTo : ℕ → List Bound → List Statement → List Bound → Type 0
+abbrev pub AreGoodTo : ℕ → List NamedShape → List Statement → List NamedShape → Type 0
 AreGoodTo grid known [] after = known ≡ after
 AreGoodTo grid known (statement ∷ others) after =
-    (more : List Bound) × IsNext grid known statement more × AreGoodTo grid (known ++ more) others after
+    (more : List NamedShape) × IsNext grid known statement more × AreGoodTo grid (known ++ more) others after
 
 -- Of these items some were read: they have no fault and all are run, and the reader has their statements and the names that they
 -- bind. The others are those of the lines that are left.

@@ -41,11 +41,17 @@ names_after Delete = 1
 
 -- whether the first of the names is bound by the statement; all others are its inputs
 abbrev pub binds : Verb → Bool
+binds Copy = true
+binds Add = true
+binds Mul = true
+binds TMul = true
+binds MulT = true
+binds Square = true
+binds Full = true
 binds Trace = false
 binds Count = false
 binds Print = false
 binds Delete = false
-binds verb = true
 
 -- What the words of a line say: `market` or a verb, and as many names as belong to it, however they are spelled.
 pub data Said : Type 0 where
@@ -86,11 +92,12 @@ pub record Shape : Type 0 where
   pub columns : ℕ
   pub form : Form
 
--- whether a form is this one
+-- whether a form is the general one
 abbrev pub is_general : Form → Bool
 is_general General = true
 is_general Symmetric = false
 
+-- whether it is the symmetric one
 abbrev pub is_symmetric : Form → Bool
 is_symmetric General = false
 is_symmetric Symmetric = true
@@ -106,6 +113,7 @@ is_square a = a.rows == a.columns
 
 -- whether the shapes of the inputs fit a verb; the second is not looked at where there is one input
 abbrev pub shapes_fit : Verb → Shape → Shape → Bool
+shapes_fit Copy a b = true
 shapes_fit Add a b = a.rows == b.rows && a.columns == b.columns
 shapes_fit Mul a b = a.columns == b.rows
 shapes_fit TMul a b = a.rows == b.rows
@@ -113,26 +121,38 @@ shapes_fit MulT a b = a.columns == b.columns
 shapes_fit Square a b = is_square a
 shapes_fit Full a b = is_square a
 shapes_fit Trace a b = is_square a
-shapes_fit verb a b = true
+shapes_fit Count a b = true
+shapes_fit Print a b = true
+shapes_fit Delete a b = true
 
 -- whether the forms of the inputs fit a verb
 abbrev pub forms_fit : Verb → Shape → Shape → Bool
+forms_fit Copy a b = true
 forms_fit Add a b = are_same_form a.form b.form
 forms_fit Mul a b = not (is_symmetric a.form && is_symmetric b.form)
 forms_fit TMul a b = is_general a.form && is_general b.form
 forms_fit MulT a b = is_general a.form && is_general b.form
 forms_fit Square a b = is_symmetric a.form
 forms_fit Full a b = is_symmetric a.form
-forms_fit verb a b = true
+forms_fit Trace a b = true
+forms_fit Count a b = true
+forms_fit Print a b = true
+forms_fit Delete a b = true
 
 -- a general matrix of that many rows and columns
 abbrev pub general : ℕ → ℕ → Shape
 general rows columns = record { rows = rows; columns = columns; form = General }
 
--- the shape and form of what a verb binds
+-- the shape and form of what a verb binds; that of its input where it binds nothing
 abbrev pub shape_bound : Verb → Shape → Shape → Shape
+shape_bound Copy a b = a
+shape_bound Add a b = a
 shape_bound Mul a b = general a.rows b.columns
 shape_bound TMul a b = general a.columns b.columns
 shape_bound MulT a b = general a.rows b.rows
+shape_bound Square a b = a
 shape_bound Full a b = general a.rows a.columns
-shape_bound verb a b = a
+shape_bound Trace a b = a
+shape_bound Count a b = a
+shape_bound Print a b = a
+shape_bound Delete a b = a

@@ -1,106 +1,157 @@
 -- What is wrong with a text, if anything: the first line, in order, at which a rule is broken, with the least code. Each line is
--- judged from the items before it and from itself.
+-- judged from the items before it and from itself: by rules on lines, and by rules on names that know no lines.
 use Rattle.std.specs.Prelude.{ℕ, ◌^◌, Bool, true, false, ◌&&◌, not, nat_le, is_none, if◌then◌else◌, List, [], ◌∷◌, ◌++◌, length, map, Option, None, Some, Result, Ok, Err, option_map}
-use Rattle.std.specs.List.{list_all, list_any}
+use Rattle.std.specs.List.{list_all, list_any, flat_map}
 use Rattle.std.specs.Str.{bytes_eq}
 use Rattle.mm_text.specs.declared.market.MarketFault.{MarketFault}
 use Rattle.mm_text.specs.Lines.{words_of, is_text}
-use Rattle.mm_text.specs.Faults.{first_code, first_fault}
+use Rattle.mm_text.specs.Faults.{first_code, or_else, first_fault}
 use Rattle.mm_text.specs.Block as listing
 use Rattle.cht_script.specs.declared.script.Verb.{Verb}
-use Rattle.cht_script.specs.declared.script.Verb.TheVariants.{Add, Trace, Print, Delete}
+use Rattle.cht_script.specs.declared.script.Verb.TheVariants.{Copy, Add, Mul, TMul, MulT, Square, Full, Trace, Count, Print, Delete}
+use Rattle.cht_script.specs.Newest.{newest}
 use Rattle.cht_script.specs.Words.{is_name}
-use Rattle.cht_script.specs.Statements.{Said, Market, Act, said_in, new_names, input_names, Shape, general, is_general, shapes_fit, forms_fit, shape_bound}
+use Rattle.cht_script.specs.Statements.{Said, Market, Act, said_in, names_said, new_names, input_names, Shape, general, is_general, shapes_fit, forms_fit, shape_bound}
 use Rattle.cht_script.specs.Items.{Fault, fault_at, fault_behind, Heading, heading_of, Item, Line, Block, items_behind, items_of}
 
--- ---- What earlier items bound and deleted
+-- ---- Names with shapes
 
 -- a name with the shape of its matrix
-pub record Bound : Type 0 where
+pub record NamedShape : Type 0 where
   pub name : List ℕ
   pub shape : Shape
 
--- the shape of a name, and that of no matrix where it is not bound
-abbrev pub shape_in : List Bound → List ℕ → Shape
-shape_in [] name = general 0 0
-shape_in (one ∷ others) name = if bytes_eq one.name name then one.shape else shape_in others name
+-- a name with this shape
+abbrev pub with_shape : Shape → List ℕ → NamedShape
+with_shape shape name = record { name = name; shape = shape }
 
--- the shapes of the first two of these names; that of no matrix for one that is missing
-abbrev pub first_shape : List Bound → List (List ℕ) → Shape
+-- whether a shape is that of this name
+abbrev pub has_name : List ℕ → NamedShape → Bool
+has_name name one = bytes_eq one.name name
+
+-- whether a name is bound, by what was bound so far
+abbrev pub is_known : List NamedShape → List ℕ → Bool
+is_known known name = list_any (has_name name) known
+
+-- the shape of a name that was found, and that of no matrix where it was not
+abbrev pub shape_found : Option NamedShape → Shape
+shape_found None = general 0 0
+shape_found (Some one) = one.shape
+
+-- the shape of a name, by its newest binding
+abbrev pub shape_in : List NamedShape → List ℕ → Shape
+shape_in known name = shape_found (newest (has_name name) known)
+
+-- the shape of the first of these names; that of no matrix where there is none
+abbrev pub first_shape : List NamedShape → List (List ℕ) → Shape
 first_shape known [] = general 0 0
 first_shape known (name ∷ names) = shape_in known name
 
-abbrev pub second_shape : List Bound → List (List ℕ) → Shape
+-- the shape of the second of these names; that of no matrix where there is none
+abbrev pub second_shape : List NamedShape → List (List ℕ) → Shape
 second_shape known [] = general 0 0
 second_shape known (name ∷ names) = first_shape known names
 
--- a name with this shape
-abbrev pub bound : Shape → List ℕ → Bound
-bound shape name = record { name = name; shape = shape }
+-- ---- What a statement does to names
 
--- the shape of what a line binds
-abbrev pub shape_said : List Bound → Said → Shape
-shape_said known (Market names) = general 0 0
-shape_said known (Act verb names) =
+-- the shape of what is bound by what a statement says, where a matrix that it lists has the first of these shapes
+abbrev pub shape_said : Shape → List NamedShape → Said → Shape
+shape_said listed known (Market names) = listed
+shape_said listed known (Act verb names) =
     shape_bound verb (first_shape known (input_names (Act verb names))) (second_shape known (input_names (Act verb names)))
 
--- the names that a line binds
-abbrev pub bound_by_line : List Bound → Option Said → List Bound
+-- the names that it binds
+abbrev pub bound_said : Shape → List NamedShape → Said → List NamedShape
+bound_said listed known said = map (with_shape (shape_said listed known said)) (new_names said)
+
+-- the names that a verb deletes
+abbrev pub deleted_by_verb : Verb → List (List ℕ) → List (List ℕ)
+deleted_by_verb Copy names = []
+deleted_by_verb Add names = []
+deleted_by_verb Mul names = []
+deleted_by_verb TMul names = []
+deleted_by_verb MulT names = []
+deleted_by_verb Square names = []
+deleted_by_verb Full names = []
+deleted_by_verb Trace names = []
+deleted_by_verb Count names = []
+deleted_by_verb Print names = []
+deleted_by_verb Delete names = names
+
+-- the names that are deleted by what a statement says
+abbrev pub deleted_said : Said → List (List ℕ)
+deleted_said (Market names) = []
+deleted_said (Act verb names) = deleted_by_verb verb names
+
+-- ---- The rules on names
+
+-- whether a name is among these
+abbrev pub is_among : List (List ℕ) → List ℕ → Bool
+is_among names name = list_any (λ other. bytes_eq other name) names
+
+-- The rules on the names of a statement, from what it says and from the names that were bound and deleted before it: 14 an input
+-- that was not bound, 15 one that was deleted, 16 a new name that was bound, 17 shapes that do not fit, 18 forms that do not
+-- fit. They do not speak of lines.
+abbrev pub name_rules : List NamedShape → List (List ℕ) → Said → List (ℕ × Bool)
+name_rules known deleted (Market names) = (16, list_any (is_known known) names) ∷ []
+name_rules known deleted (Act verb names) =
+    (14, list_any (λ name. not (is_known known name)) (input_names (Act verb names)))
+    ∷ (15, list_any (is_among deleted) (input_names (Act verb names)))
+    ∷ (16, list_any (is_known known) (new_names (Act verb names)))
+    ∷ (17, not (shapes_fit verb (first_shape known (input_names (Act verb names))) (second_shape known (input_names (Act verb names)))))
+    ∷ (18, not (forms_fit verb (first_shape known (input_names (Act verb names))) (second_shape known (input_names (Act verb names)))))
+    ∷ []
+
+-- ---- What earlier items bound and deleted
+
+-- the names that a line binds; one that says `market` lists no matrix, where it is no block
+abbrev pub bound_by_line : List NamedShape → Option Said → List NamedShape
 bound_by_line known None = []
-bound_by_line known (Some said) = map (bound (shape_said known said)) (new_names said)
+bound_by_line known (Some said) = bound_said (general 0 0) known said
 
 -- the shape of a block
 abbrev pub shape_of_block : listing.Block → Shape
 shape_of_block block = record { rows = block.sizes.rows; columns = block.sizes.columns; form = block.form }
 
 -- the names that an item binds
-abbrev pub bound_by : List Bound → Item → List Bound
+abbrev pub bound_by : List NamedShape → Item → List NamedShape
 bound_by known (Line n line) = bound_by_line known (said_in (words_of line))
-bound_by known (Block n name (Ok block)) = bound (shape_of_block block) name ∷ []
+bound_by known (Block n name (Ok block)) = bound_said (shape_of_block block) known (Market (name ∷ []))
 bound_by known (Block n name (Err fault)) = []
 
 -- the names that are bound after these items
-abbrev pub known_after : List Bound → List Item → List Bound
+abbrev pub known_after : List NamedShape → List Item → List NamedShape
 known_after known [] = known
 known_after known (item ∷ items) = known_after (known ++ bound_by known item) items
 
--- whether a name is bound
-abbrev pub is_known : List Bound → List ℕ → Bool
-is_known known name = list_any (λ (one : Bound). bytes_eq one.name name) known
+-- the names that a line deletes
+abbrev pub deleted_by_line : Option Said → List (List ℕ)
+deleted_by_line None = []
+deleted_by_line (Some said) = deleted_said said
 
--- whether a line deletes a name
-abbrev pub deletes_said : List ℕ → Option Said → Bool
-deletes_said name (Some (Act Delete (deleted ∷ []))) = bytes_eq deleted name
-deletes_said name said = false
+-- the names that an item deletes
+abbrev pub deleted_by : Item → List (List ℕ)
+deleted_by (Line n line) = deleted_by_line (said_in (words_of line))
+deleted_by (Block n name found) = []
 
-abbrev pub deletes : List ℕ → Item → Bool
-deletes name (Line n line) = deletes_said name (said_in (words_of line))
-deletes name (Block n listed found) = false
+-- the names that these items delete
+abbrev pub deleted_after : List Item → List (List ℕ)
+deleted_after items = flat_map deleted_by items
 
--- whether one of these items deletes a name
-abbrev pub is_deleted : List Item → List ℕ → Bool
-is_deleted before name = list_any (deletes name) before
+-- ---- The rules on lines, and both together
 
--- ---- The rules
+-- the rule on the words of a line that says this: 6 a word that is no name
+abbrev pub word_rules : Said → List (ℕ × Bool)
+word_rules said = (6, not (list_all is_name (names_said said))) ∷ []
 
--- The rules for what a line says: 6 a word that is no name, 14 an input that no earlier line bound, 15 one that was deleted, 16
--- a new name that is bound already, 17 shapes that do not fit, 18 forms that do not fit.
-abbrev pub rules_said : List Bound → List Item → Said → List (ℕ × Bool)
-rules_said known before (Market names) =
-    (6, not (list_all is_name names)) ∷ (16, list_any (is_known known) names) ∷ []
-rules_said known before (Act verb names) =
-    (6, not (list_all is_name names))
-    ∷ (14, list_any (λ name. not (is_known known name)) (input_names (Act verb names)))
-    ∷ (15, list_any (is_deleted before) (input_names (Act verb names)))
-    ∷ (16, list_any (is_known known) (new_names (Act verb names)))
-    ∷ (17, not (shapes_fit verb (first_shape known (input_names (Act verb names))) (second_shape known (input_names (Act verb names)))))
-    ∷ (18, not (forms_fit verb (first_shape known (input_names (Act verb names))) (second_shape known (input_names (Act verb names)))))
-    ∷ []
+-- the rules on names for what a line says behind these items
+abbrev pub name_rules_behind : List Item → Said → List (ℕ × Bool)
+name_rules_behind before said = name_rules (known_after [] before) (deleted_after before) said
 
 -- the rules for a line that says this; 4 where it says nothing
 abbrev pub rules_if_said : List Item → Option Said → List (ℕ × Bool)
 rules_if_said before None = (4, true) ∷ []
-rules_if_said before (Some said) = rules_said (known_after [] before) before said
+rules_if_said before (Some said) = word_rules said ++ name_rules_behind before said
 
 -- the code of a line that is not skipped: 2 other bytes than text, then the rules for what it says
 abbrev pub line_code : List Item → List ℕ → Option ℕ
@@ -111,11 +162,12 @@ abbrev pub block_fault : ℕ → Result listing.Block MarketFault → Option Fau
 block_fault n (Ok block) = None
 block_fault n (Err fault) = Some (fault_behind n fault)
 
--- the fault of an item, from the items before it; that of a line `market NAME` comes before those of its block
+-- The fault of an item, from the items before it. At one line the least code comes first, so that the rules on the line come
+-- before those on names; the rules on the name of a line `market NAME` come before those on the lines of its block.
 abbrev pub item_fault : List Item → Item → Option Fault
 item_fault before (Line n line) = option_map (fault_at n) (line_code before line)
 item_fault before (Block n name found) =
-    if is_known (known_after [] before) name then Some (fault_at n 16) else block_fault n found
+    or_else (option_map (fault_at n) (first_code (name_rules_behind before (Market (name ∷ []))))) (block_fault n found)
 
 -- ---- The verdict
 
@@ -134,16 +186,25 @@ verdict text = if nat_le (length text) most_bytes then fault_with (heading_of te
 
 -- ---- What is run
 
--- whether a statement is one that is run so far
+-- whether a statement with a verb is one that is run so far
 abbrev pub is_run_verb : Verb → Bool
+is_run_verb Copy = false
 is_run_verb Add = true
+is_run_verb Mul = false
+is_run_verb TMul = false
+is_run_verb MulT = false
+is_run_verb Square = false
+is_run_verb Full = false
 is_run_verb Trace = true
+is_run_verb Count = false
 is_run_verb Print = true
-is_run_verb verb = false
+is_run_verb Delete = false
 
+-- whether a line says such a statement
 abbrev pub is_run_said : Option Said → Bool
+is_run_said None = false
+is_run_said (Some (Market names)) = false
 is_run_said (Some (Act verb names)) = is_run_verb verb
-is_run_said said = false
 
 -- whether an item is: a general block, or a line with such a statement
 abbrev pub is_run : Item → Bool

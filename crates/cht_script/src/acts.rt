@@ -2,7 +2,7 @@ ghost use Rattle.std.specs.Prelude.{◌≡◌, [], ◌∷◌, false, MatchOption
 ghost use Rattle.cht_script.specs.declared.script.Verb.TheVariants.{Add, Trace, Print};
 ghost use Rattle.cht_script.specs.Steps.{words_told, is_sound_act, IsAccepted, IsOfOne};
 
-use crate::bindings::{Binding, Bindings};
+use crate::known_names::{Found, KnownNames};
 use crate::script::{Name, Names, Slots, Statement, Verb};
 use crate::shape::Shape;
 use crate::statement::Words;
@@ -16,7 +16,7 @@ pub(crate) struct Accepted<'a> {
 
 /// The statement with a verb that line `line` says, where it is one that is run and breaks no rule on its names.
 pub(crate) fn accept<'a>(
-    known: &Bindings<'a>,
+    known: &KnownNames<'a>,
     line: u64,
     verb: Verb,
     words: Words<'a>,
@@ -32,7 +32,7 @@ pub(crate) fn accept<'a>(
 }
 
 fn accept_sum<'a>(
-    known: &Bindings<'a>,
+    known: &KnownNames<'a>,
     line: u64,
     to: &'a [u8],
     first: &'a [u8],
@@ -65,7 +65,7 @@ fn accept_sum<'a>(
     })
 }
 
-fn accept_trace<'a>(known: &Bindings<'a>, line: u64, word: &'a [u8]) -> Option<Accepted<'a>>
+fn accept_trace<'a>(known: &KnownNames<'a>, line: u64, word: &'a [u8]) -> Option<Accepted<'a>>
     ensures { MatchOption result (is_sound_act known.now Trace (word.now ∷ []) ≡ false) (λ accepted. IsAccepted known.now line Trace (word.now ∷ []) accepted) }
 {
     let name = Name::of(word)?;
@@ -76,7 +76,7 @@ fn accept_trace<'a>(known: &Bindings<'a>, line: u64, word: &'a [u8]) -> Option<A
     Some(of_one(line, Verb::Trace, name, input))
 }
 
-fn accept_print<'a>(known: &Bindings<'a>, line: u64, word: &'a [u8]) -> Option<Accepted<'a>>
+fn accept_print<'a>(known: &KnownNames<'a>, line: u64, word: &'a [u8]) -> Option<Accepted<'a>>
     ensures { MatchOption result (is_sound_act known.now Print (word.now ∷ []) ≡ false) (λ accepted. IsAccepted known.now line Print (word.now ∷ []) accepted) }
 {
     let name = Name::of(word)?;
@@ -85,7 +85,7 @@ fn accept_print<'a>(known: &Bindings<'a>, line: u64, word: &'a [u8]) -> Option<A
 }
 
 // A statement with one name, which is its input.
-fn of_one<'a>(line: u64, verb: Verb, name: Name, input: Binding) -> Accepted<'a>
+fn of_one<'a>(line: u64, verb: Verb, name: Name, input: Found) -> Accepted<'a>
     ensures { IsOfOne line verb name input result }
 {
     Accepted {

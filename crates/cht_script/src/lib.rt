@@ -5,8 +5,8 @@ ghost use Rattle.std.specs.Prelude.{◌≡◌, IfOk};
 ghost use Rattle.cht_script.specs.Reading.{IsFound};
 
 mod acts;
-mod bindings;
 mod heading;
+mod known_names;
 mod reader;
 mod script;
 mod shape;
@@ -21,8 +21,8 @@ use reader::read_statements;
 pub use script::{Name, Names, Script, Slots, Statement, Verb};
 use std::alloc::Global;
 
-// How many bytes a script may have.
-const MOST_BYTES: usize = 1 << 26;
+/// How many bytes a script may have.
+pub const MOST_BYTES: usize = 1 << 26;
 
 /// Reads a script. `None` exactly where the text has a fault, a block in the symmetric form, or a statement other than
 /// `market`, `add`, `trace` and `print`.

@@ -10,7 +10,7 @@ ghost use Rattle.cht_script.specs.Steps.{words_told, new_told, IsFresh};
 ghost use Rattle.cht_script.specs.Progress.{are_sound, items_after, IsTaken, IsStopped, HasRoom, HasPlace, IsReadTo, AreStatementsOf};
 
 use crate::acts::{Accepted, accept};
-use crate::bindings::Bindings;
+use crate::known_names::KnownNames;
 use crate::heading::Heading;
 use crate::script::{Name, Statement, Verb};
 use crate::shape::Shape;
@@ -27,7 +27,7 @@ struct Reader<'a> {
     grid: u32,
     rest: &'a [u8],
     lines: u64,
-    bound: Bindings<'a>,
+    bound: KnownNames<'a>,
     statements: List<Statement>,
 }
 
@@ -157,7 +157,7 @@ pub(crate) fn read_statements(
         grid: heading.grid,
         rest: heading.rest,
         lines: heading.line,
-        bound: Bindings::new(alloc),
+        bound: KnownNames::new(alloc),
         statements: List::new(alloc),
     };
     while let Some((line, behind)) = next_line(reader.rest) {

@@ -246,12 +246,16 @@ abbrev pub value_at : List Entry → ℕ → ℕ → ℤ
 value_at [] i j = pos 0
 value_at (e ∷ es) i j = if names i j e then e.value else value_at es i j
 
--- the number of a block in row i and column j, counted from 1; that of a symmetric block stands for both places
-abbrev pub number_in : Block → Form → ℕ → ℕ → ℤ
-number_in block General i j = value_at block.entries i j
-number_in block Symmetric i j = value_at block.entries (max i j) (min i j)
+-- The number in row i and column j, counted from 1, of the matrix that entries in a form list. In the symmetric form an entry
+-- stands for both places.
+abbrev pub number_listed : Form → List Entry → ℕ → ℕ → ℤ
+number_listed General entries i j = value_at entries i j
+number_listed Symmetric entries i j = value_at entries (max i j) (min i j)
 
--- the matrix of a block: its numbers are those of its entries, and 0 elsewhere
+-- the matrix of so many rows and columns that entries in a form list: their values, and 0 elsewhere
+abbrev pub matrix_listed : Form → ℕ → ℕ → List Entry → Matrix
+matrix_listed form rows columns entries = made rows columns (λ i j. number_listed form entries (i + 1) (j + 1))
+
+-- the matrix of a block
 abbrev pub matrix_of : Block → Matrix
-matrix_of block =
-    made block.sizes.rows block.sizes.columns (λ i j. number_in block block.form (i + 1) (j + 1))
+matrix_of block = matrix_listed block.form block.sizes.rows block.sizes.columns block.entries

@@ -1,8 +1,11 @@
 -- The numbers of a matrix that are not zero, as a list.
-use Rattle.std.specs.Prelude.{ℕ, ◌+◌, Bool, false, ◌==◌, if◌then◌else◌, List, [], ◌∷◌, ◌++◌, map, ℤ, pos, negsuc}
+use Rattle.std.specs.Prelude.{ℕ, ◌+◌, Bool, false, ◌==◌, nat_le, if◌then◌else◌, List, [], ◌∷◌, ◌++◌, map, ℤ, pos, negsuc}
+use Rattle.std.specs.List.{filter}
 use Rattle.dense_def.specs.Matrix.{Matrix}
 use Rattle.mm_text.specs.declared.market.Cell.{Cell}
 use Rattle.mm_text.specs.declared.market.Entry.{Entry}
+use Rattle.mm_text.specs.declared.market.Form.{Form}
+use Rattle.mm_text.specs.declared.market.Form.TheVariants.{General, Symmetric}
 
 -- whether a number is 0
 abbrev pub is_zero : ℤ → Bool
@@ -24,6 +27,15 @@ cells_of_rows i (row ∷ rows) = cells_of_row i 1 row ++ cells_of_rows (i + 1) r
 -- and columns count from 1.
 abbrev pub cells_of : Matrix → List Cell
 cells_of m = cells_of_rows 1 m.rows
+
+-- whether a cell stands on or below the diagonal
+abbrev pub is_low : Cell → Bool
+is_low cell = nat_le cell.column cell.row
+
+-- the cells by which a form lists a matrix: all of them, or for the symmetric form those on or below the diagonal
+abbrev pub cells_listed : Form → Matrix → List Cell
+cells_listed General m = cells_of m
+cells_listed Symmetric m = filter is_low (cells_of m)
 
 -- an entry as a cell
 abbrev pub cell_of : Entry → Cell

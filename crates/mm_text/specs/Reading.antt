@@ -8,14 +8,14 @@ use Rattle.mm_text.specs.declared.market.MarketRefused.{MarketRefused}
 use Rattle.mm_text.specs.declared.market.MarketRefused.TheVariants as refusals
 use Rattle.mm_text.specs.Lines.{cut_lines, lines_of}
 use Rattle.mm_text.specs.Block.{Block, block_in, matrix_of}
-use Rattle.mm_text.specs.Cells.{cells_of, entry_cells}
+use Rattle.mm_text.specs.Cells.{cells_listed, entry_cells}
 
--- the market is the matrix of the block, as its cells
+-- the market is the matrix of the block, as the cells by which its form lists it
 pub record IsMarketOf (block : Block) (market : Market) : Type 0 where
   pub form : market.form ≡ block.form
   pub rows : market.rows ≡ block.sizes.rows
   pub columns : market.columns ≡ block.sizes.columns
-  pub entries : entry_cells market.entries ≡ cells_of (matrix_of block)
+  pub entries : entry_cells market.entries ≡ cells_listed block.form (matrix_of block)
 
 -- The text begins with a block in the general form, and this is what was read of it: its matrix, how many lines it takes,
 -- and how many bytes these lines take. What stands behind these bytes are the other lines.

@@ -6,7 +6,7 @@ use Rattle.dense_def.specs.Matrix.{Matrix, height}
 use Rattle.mm_text.specs.declared.market.Cell.{Cell}
 use Rattle.mm_text.specs.declared.market.Form.{Form}
 use Rattle.mm_text.specs.declared.market.Form.TheVariants.{General, Symmetric}
-use Rattle.mm_text.specs.Cells.{cells_of}
+use Rattle.mm_text.specs.Cells.{cells_listed}
 
 -- the first line
 abbrev pub banner : Form → List ℕ
@@ -26,6 +26,6 @@ abbrev pub text_of_cells : Form → ℕ → ℕ → List Cell → List ℕ
 text_of_cells form rows columns cells =
     banner form ++ 10 ∷ line_of_three rows columns (pos (length cells)) ++ flat_map cell_line cells
 
--- the text of a dense matrix in the general form: each number that is not zero, row by row
-abbrev pub general_text : Matrix → List ℕ
-general_text m = text_of_cells General (height m) m.columns (cells_of m)
+-- the text of a dense matrix in a form
+abbrev pub matrix_text : Form → Matrix → List ℕ
+matrix_text form m = text_of_cells form (height m) m.columns (cells_listed form m)

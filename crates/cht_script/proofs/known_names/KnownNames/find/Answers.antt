@@ -1,6 +1,6 @@
 use Rattle.std.proofs.Common.{arith}
 use Rattle.cht_script.proofs.Places.{not_found, place_within, found_at}
-use Rattle.cht_script.proofs.bindings.Bindings.find.Goals as goal
+use Rattle.cht_script.proofs.known_names.KnownNames.find.Goals as goal
 
 pub returns-in_err-slot : goal.returns-in_err-slot
 returns-in_err-slot c =
