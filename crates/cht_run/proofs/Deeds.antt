@@ -11,7 +11,7 @@ use Rattle.cht_script.specs.Meaning.{Acts as Does}
 use Rattle.cht_script.specs.Reading.{IsGoodAct, name_bytes, names_of}
 use Rattle.cht_run.specs.declared.run.Stop.{Stop}
 use Rattle.cht_run.specs.declared.run.Stop.TheVariants as stops
-use Rattle.cht_run.specs.Held.{Environment, bound_of, matrix_at}
+use Rattle.cht_run.specs.Held.{Environment, shape_of_known, matrix_at, form_at}
 use Rattle.cht_run.specs.Running.{Acts, IsReady, IsAdded, IsTraceWritten, IsPrinted}
 use Rattle.cht_run.proofs.Named.{has_shape}
 
@@ -45,7 +45,7 @@ not_false e = ap not e
 
 -- a sum that was bound, or not
 pub added : (env later : Environment) (c a b : List ℕ) (inputs : Slots) (shape : Shape) (r : Result (Unit {0}) Stop) (line : ℕ)
-    (before : Option (List ℕ)) → IsGoodAct (map bound_of env.known) Add (c ∷ a ∷ b ∷ []) inputs shape
+    (before : Option (List ℕ)) → IsGoodAct (map shape_of_known env.known) Add (c ∷ a ∷ b ∷ []) inputs shape
     → IsAdded r env c inputs.first inputs.second later → Acts (Does line Add (c ∷ a ∷ b ∷ [])) r env later before before
 added env later c a b inputs shape (Ok done) line before good is =
     let first = has_shape env a inputs.first shape good.1 in
@@ -117,14 +117,14 @@ traced env (a ∷ b ∷ names) inputs r line before after ready is = absurd read
 -- a matrix that was printed, or not
 pub printed : (env : Environment) (names : List (List ℕ)) (inputs : Slots) (r : Result (Unit {0}) Stop) (line : ℕ)
     (before after : Option (List ℕ)) → IsReady env Print names inputs
-    → IsPrinted r (matrix_at env inputs.first) before after → Acts (Does line Print names) r env env before after
+    → IsPrinted r (form_at env inputs.first) (matrix_at env inputs.first) before after → Acts (Does line Print names) r env env before after
 printed env [] inputs r line before after ready is = absurd ready.1
 printed env (a ∷ []) inputs (Ok done) line before after ready is =
     let has = has_shape env a inputs.first ready.0 ready.1 in
-    (refl, same_environment env, rw has.matrix is)
+    (refl, same_environment env, rw (has.matrix, has.form) is)
 printed env (a ∷ []) inputs (Err stops.Refused) line before after ready is = absurd is
 printed env (a ∷ []) inputs (Err stops.WriteFault) line before after ready is =
     let has = has_shape env a inputs.first ready.0 ready.1 in
-    (refl, rw has.matrix is)
+    (refl, rw (has.matrix, has.form) is)
 printed env (a ∷ []) inputs (Err stops.Memory) line before after ready is = is
 printed env (a ∷ b ∷ names) inputs r line before after ready is = absurd ready.1

@@ -11,7 +11,7 @@ use Rattle.dense_def.proofs.Peaks.{sum_fits, trace_fits}
 use Rattle.mm_text.specs.declared.market.Form.{Form}
 use Rattle.mm_text.specs.declared.market.Form.TheVariants.{General}
 use Rattle.cht_script.specs.declared.script.Name.{Name}
-use Rattle.cht_script.specs.Meaning.{Known}
+use Rattle.cht_script.specs.Meaning.{Known, matrix_found, form_found}
 use Rattle.cht_script.specs.Reading.{name_bytes}
 use Rattle.task_types.specs.Tree.{Tree, Nothing, Root}
 use Rattle.quad_matrix.specs.declared.chunk.MatChunk.{MatChunk}
@@ -25,9 +25,9 @@ use Rattle.quad_matrix.proofs.Canonical.{block_of_canonical, nothing_is_canonica
 use Rattle.quad_matrix.proofs.Sums.{add_canonical}
 use Rattle.quad_matrix.proofs.Numbers.{number_of_tree}
 use Rattle.quad_matrix.proofs.Lists.{spots_whole, spots_tall, assign_canonical}
-use Rattle.cht_run.specs.declared.binding.Binding.{Binding}
-use Rattle.cht_run.specs.Held.{Environment, matrix_of_slot, matrix_at, form_of_slot, form_at, sum_fits as sum_test, trace_fits as trace_test, IsTraceOf}
-use Rattle.cht_run.specs.Bindings.{matrix_in, known_as, known_of, environment_of, IsTreeOf, IsHeld, Binds}
+use Rattle.cht_run.specs.declared.held_matrix.HeldMatrix.{HeldMatrix}
+use Rattle.cht_run.specs.Held.{Environment, matrix_at, form_at, sum_fits as sum_test, trace_fits as trace_test, IsTraceOf}
+use Rattle.cht_run.specs.HeldMatrices.{matrix_in, known_as, known_of, environment_of, IsTreeOf, IsHeld, IsHeldAs}
 use Rattle.cht_run.proofs.Completed.{read_back, peak-completed, completed-flat, plus-completed, trace-completed, trace_fits-completed}
 
 -- a test that says whether a number is at most another is the comparison of both
@@ -58,10 +58,10 @@ module _ (b h : ℕ) where
   )
 
   -- a name, a matrix and its tree as a binding
-  pub binds : (name : Name) (rows columns : ℕ) (tree : Tree MatChunk) (m : Matrix) → IsMatrix m → height m ≡ rows → m.columns ≡ columns → rows ≤ side_of b h → columns ≤ side_of b h → IsTreeOf b h m tree
-      → Binds b h (name_bytes name) m (record { name = name; rows = rows; columns = columns; tree = tree })
-  binds name rows columns tree m whole tall wide r c is =
-      let binding : Binding = record { name = name; rows = rows; columns = columns; tree = tree } in
+  pub held_as : (name : Name) (rows columns : ℕ) (tree : Tree MatChunk) (m : Matrix) → IsMatrix m → height m ≡ rows → m.columns ≡ columns → rows ≤ side_of b h → columns ≤ side_of b h → IsTreeOf b h m tree
+      → IsHeldAs b h (name_bytes name) m (record { name = name; rows = rows; columns = columns; tree = tree })
+  held_as name rows columns tree m whole tall wide r c is =
+      let binding : HeldMatrix = record { name = name; rows = rows; columns = columns; tree = tree } in
       let same : matrix_in b h binding ≡ m =
       ap (λ block. made rows columns (λ i j. entry block i j)) is.block ∙ read_back (side_of b h) rows columns m whole tall wide r c in
       record {
@@ -71,14 +71,14 @@ module _ (b h : ℕ) where
 
   -- ---- Bindings
 
-  pub held_whole : (x : Binding) → IsMatrix (matrix_in b h x)
+  pub held_whole : (x : HeldMatrix) → IsMatrix (matrix_in b h x)
   held_whole x = IsMatrix-made x.rows x.columns (λ i j. entry (block_of b h x.tree) i j)
 
-  pub held_tall : (x : Binding) → height (matrix_in b h x) ≡ x.rows
+  pub held_tall : (x : HeldMatrix) → height (matrix_in b h x) ≡ x.rows
   held_tall x = height-made x.rows x.columns (λ i j. entry (block_of b h x.tree) i j)
       -- the peak of a binding's block is that of its matrix
 
-  pub held_peak : (x : Binding) → IsHeld b h x → peak_of (block_of b h x.tree) ≡ peak_of (matrix_in b h x)
+  pub held_peak : (x : HeldMatrix) → IsHeld b h x → peak_of (block_of b h x.tree) ≡ peak_of (matrix_in b h x)
   held_peak x is =
       ap peak_of is.tree.block
       ∙ peak-completed (side_of b h) (matrix_in b h x) (held_whole x) (rw held_tall is.rows) is.columns
@@ -86,13 +86,13 @@ module _ (b h : ℕ) where
   -- ---- Sums
 
   -- the test of the blocks' peaks is that of the matrices
-  pub sum_tested : (x y : Binding) (p q : ℕ) (test : Bool) → IsHeld b h x → IsHeld b h y → p ≡ peak_of (block_of b h x.tree) → q ≡ peak_of (block_of b h y.tree) → IsTrue test ↔ (p + q ≤ 2 ^ 126)
+  pub sum_tested : (x y : HeldMatrix) (p q : ℕ) (test : Bool) → IsHeld b h x → IsHeld b h y → p ≡ peak_of (block_of b h x.tree) → q ≡ peak_of (block_of b h y.tree) → IsTrue test ↔ (p + q ≤ 2 ^ 126)
       → test ≡ sum_test (matrix_in b h x) (matrix_in b h y)
   sum_tested x y p q test hx hy e f says =
       test_is test (p + q) (2 ^ 126) says ∙ ap₂ (λ p q. nat_le (p + q) (2 ^ 126)) (e ∙ held_peak x hx) (f ∙ held_peak y hy)
 
   -- where it is met the sum fits
-  pub sum_fitting : (x y : Binding) (p q : ℕ) → IsHeld b h x → IsHeld b h y → p ≡ peak_of (block_of b h x.tree) → q ≡ peak_of (block_of b h y.tree) → p + q ≤ 2 ^ 126
+  pub sum_fitting : (x y : HeldMatrix) (p q : ℕ) → IsHeld b h x → IsHeld b h y → p ≡ peak_of (block_of b h x.tree) → q ≡ peak_of (block_of b h y.tree) → p + q ≤ 2 ^ 126
       → FitsAt b Add h (x.tree ∷ y.tree ∷ [])
   sum_fitting x y p q hx hy e f le =
       let cx = hx.tree.canonical in
@@ -100,7 +100,7 @@ module _ (b h : ℕ) where
       (cx, cy, sum_fits (block_of b h x.tree) (block_of b h y.tree) (cx.sized.tall ∙ sym cy.sized.tall) (cx.sized.wide ∙ sym cy.sized.wide) (omega (arith, e, f, le)))
 
   -- and its goal is the tree of the sum
-  pub sum_tree : (x y : Binding) (tree : Tree MatChunk) → IsHeld b h x → IsHeld b h y → x.rows ≡ y.rows → x.columns ≡ y.columns → FitsAt b Add h (x.tree ∷ y.tree ∷ []) → tree ≡ goal_at b Add h (x.tree ∷ y.tree ∷ [])
+  pub sum_tree : (x y : HeldMatrix) (tree : Tree MatChunk) → IsHeld b h x → IsHeld b h y → x.rows ≡ y.rows → x.columns ≡ y.columns → FitsAt b Add h (x.tree ∷ y.tree ∷ []) → tree ≡ goal_at b Add h (x.tree ∷ y.tree ∷ [])
       → IsTreeOf b h (plus (matrix_in b h x) (matrix_in b h y)) tree
   sum_tree x y tree hx hy r c fits is =
       let m = matrix_in b h x in
@@ -118,18 +118,18 @@ module _ (b h : ℕ) where
       }
 
   -- a name with the sum of two bindings
-  pub sum_binds : (name : Name) (x y : Binding) (tree : Tree MatChunk) → IsHeld b h x → IsHeld b h y → x.rows ≡ y.rows → x.columns ≡ y.columns → FitsAt b Add h (x.tree ∷ y.tree ∷ []) → tree ≡ goal_at b Add h (x.tree ∷ y.tree ∷ [])
-      → Binds b h (name_bytes name) (plus (matrix_in b h x) (matrix_in b h y)) (record { name = name; rows = x.rows; columns = x.columns; tree = tree })
-  sum_binds name x y tree hx hy r c fits is =
+  pub sum_held_as : (name : Name) (x y : HeldMatrix) (tree : Tree MatChunk) → IsHeld b h x → IsHeld b h y → x.rows ≡ y.rows → x.columns ≡ y.columns → FitsAt b Add h (x.tree ∷ y.tree ∷ []) → tree ≡ goal_at b Add h (x.tree ∷ y.tree ∷ [])
+      → IsHeldAs b h (name_bytes name) (plus (matrix_in b h x) (matrix_in b h y)) (record { name = name; rows = x.rows; columns = x.columns; tree = tree })
+  sum_held_as name x y tree hx hy r c fits is =
       let m = matrix_in b h x in
       let n = matrix_in b h y in
-      binds name x.rows x.columns tree (plus m n) (IsMatrix-made (height m) m.columns (λ i j. entry m i j +ℤ entry n i j)) (height-plus m n ∙ held_tall x) refl hx.rows hx.columns
+      held_as name x.rows x.columns tree (plus m n) (IsMatrix-made (height m) m.columns (λ i j. entry m i j +ℤ entry n i j)) (height-plus m n ∙ held_tall x) refl hx.rows hx.columns
       (sum_tree x y tree hx hy r c fits is)
 
   -- ---- Traces
 
   -- the test of the block's peak is that of the matrix
-  pub trace_tested : (x : Binding) (p : ℕ) (test : Bool) → IsHeld b h x → p ≡ peak_of (block_of b h x.tree) → IsTrue test ↔ (x.rows * p * 1 ≤ 2 ^ 126)
+  pub trace_tested : (x : HeldMatrix) (p : ℕ) (test : Bool) → IsHeld b h x → p ≡ peak_of (block_of b h x.tree) → IsTrue test ↔ (x.rows * p * 1 ≤ 2 ^ 126)
       → test ≡ trace_test (matrix_in b h x)
   trace_tested x p test hx e says =
       test_is test (x.rows * p * 1) (2 ^ 126) says
@@ -137,7 +137,7 @@ module _ (b h : ℕ) where
       ∙ ap₂ (λ n p. nat_le (n * p) (2 ^ 126)) (sym (held_tall x)) (e ∙ held_peak x hx)
 
   -- where it is met the trace fits
-  pub trace_fitting : (x : Binding) → IsHeld b h x → x.rows ≡ x.columns → trace_test (matrix_in b h x) ≡ true
+  pub trace_fitting : (x : HeldMatrix) → IsHeld b h x → x.rows ≡ x.columns → trace_test (matrix_in b h x) ≡ true
       → FitsAt b Trace h (x.tree ∷ [])
   trace_fitting x hx square fits =
       let m = matrix_in b h x in
@@ -146,7 +146,7 @@ module _ (b h : ℕ) where
       (hx.tree.canonical, subst (λ block. TraceFits block) (sym hx.tree.block) (trace_fits-completed side m (rw held_tall hx.rows) within))
 
   -- and its goal is the tree of the trace
-  pub trace_told : (x : Binding) (tree : Tree MatChunk) → IsHeld b h x → trace_test (matrix_in b h x) ≡ true → tree ≡ goal_at b Trace h (x.tree ∷ [])
+  pub trace_told : (x : HeldMatrix) (tree : Tree MatChunk) → IsHeld b h x → trace_test (matrix_in b h x) ≡ true → tree ≡ goal_at b Trace h (x.tree ∷ [])
       → IsTraceOf (matrix_in b h x) (Some (number_of tree))
   trace_told x tree hx fits is =
       let m = matrix_in b h x in
@@ -155,23 +155,23 @@ module _ (b h : ℕ) where
 -- ---- Lists of bindings
 
 -- the matrix of a binding by its number
-pub slot_matrix : (b h : ℕ) (items : List Binding) (env : Environment) (i : ℕ) (x : Binding) → environment_of b h items ≡ env → i < length env.known → x ≡ get_or items i x
+pub slot_matrix : (b h : ℕ) (items : List HeldMatrix) (env : Environment) (i : ℕ) (x : HeldMatrix) → environment_of b h items ≡ env → i < length env.known → x ≡ get_or items i x
     → matrix_at env i ≡ matrix_in b h x
 slot_matrix b h items env i x e lt is =
     let known : List Known = map (known_of b h) items in
     let less : i < length known = subst (λ (env : Environment). i < length env.known) (sym e) lt in
     let within : i < length items = omega (arith, less, length-map items (known_of b h)) in
     ap (λ (env : Environment). matrix_at env i) (sym e)
-    ∙ ap matrix_of_slot (slice_get-map (known_of b h) items i ∙ ap (option_map (known_of b h)) (slice_get-get_or items i x within ∙ ap Some (sym is)))
+    ∙ ap matrix_found (slice_get-map (known_of b h) items i ∙ ap (option_map (known_of b h)) (slice_get-get_or items i x within ∙ ap Some (sym is)))
 
 -- each binding has the general form
-pub slot_form : (b h : ℕ) (items : List Binding) (env : Environment) (i : ℕ) → environment_of b h items ≡ env → form_at env i ≡ General
+pub slot_form : (b h : ℕ) (items : List HeldMatrix) (env : Environment) (i : ℕ) → environment_of b h items ≡ env → form_at env i ≡ General
 slot_form b h items env i e =
-    ap (λ (env : Environment). form_at env i) (sym e) ∙ ap form_of_slot (slice_get-map (known_of b h) items i)
-    ∙ elim (slice_get items i) as (λ one. form_of_slot (option_map (known_of b h) one) ≡ General) [ None ↦ refl | Some x ↦ refl ]
+    ap (λ (env : Environment). form_at env i) (sym e) ∙ ap form_found (slice_get-map (known_of b h) items i)
+    ∙ elim (slice_get items i) as (λ one. form_found (option_map (known_of b h) one) ≡ General) [ None ↦ refl | Some x ↦ refl ]
 
 -- one more binding is one more name with its matrix
-pub one_more : (b h : ℕ) (items later : List Binding) (env : Environment) (x : Binding) (known : Known) → environment_of b h items ≡ env → later ≡ items ++ x ∷ [] → known_of b h x ≡ known
+pub one_more : (b h : ℕ) (items later : List HeldMatrix) (env : Environment) (x : HeldMatrix) (known : Known) → environment_of b h items ≡ env → later ≡ items ++ x ∷ [] → known_of b h x ≡ known
     → environment_of b h later ≡ record env { known = env.known ++ known ∷ [] }
 one_more b h items later env x known e more same =
     ap (environment_of b h) more

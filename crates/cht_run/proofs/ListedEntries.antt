@@ -1,5 +1,5 @@
 -- The entries of a market as a list for a quadtree.
-use Rattle.std.proofs.Common.{◌≡◌, ◌⊎◌, inl, inr, ℕ, zero, suc, ◌+◌, ◌-◌, ◌<◌, ◌≤◌, true, false, ◌&&◌, ◌==◌, List, [], ◌∷◌, ◌++◌, length, get_or, map, All, ℤ, pos, refl, sym, ap, ◌∙◌, subst, arith}
+use Rattle.std.proofs.Common.{◌≡◌, ◌⊎◌, inl, inr, ℕ, zero, suc, ◌+◌, ◌-◌, ◌<◌, ◌≤◌, true, false, ◌&&◌, ◌==◌, List, [], ◌∷◌, ◌++◌, length, get_or, map, All, ℤ, pos, refl, sym, ap, ap₂, ◌∙◌, subst, arith}
 use Rattle.std.specs.Prelude.{nat_lt, None, Some}
 use Rattle.std.proofs.lemmas.Bool.{true≢false, cases_lt, cond_both, cond-false, and_from, and_left, and_right, or_left, or_right, lt-ltb, eq-eqb, ne_eqb}
 use Rattle.std.proofs.lemmas.Bool.Decides.{nat_tests}
@@ -9,9 +9,10 @@ use Rattle.dense_def.specs.Matrix.{entry, made, tabulate, peak_of}
 use Rattle.dense_def.proofs.Entries.{length-tabulate, get_or-tabulate, entry_made, made_ext}
 use Rattle.mm_text.specs.declared.market.Cell.{Cell}
 use Rattle.mm_text.specs.declared.market.Entry.{Entry}
+use Rattle.mm_text.specs.declared.market.Form.TheVariants.{General}
 use Rattle.mm_text.specs.declared.market.Market.{Market}
-use Rattle.mm_text.specs.Block.{names, value_at}
-use Rattle.mm_text.specs.Cells.{is_zero, cells_of_row, cells_of_rows, cells_of, entry_cells}
+use Rattle.mm_text.specs.Block.{names, value_at, matrix_listed}
+use Rattle.mm_text.specs.Cells.{is_zero, cells_of_row, cells_of_rows, cells_of, cells_listed, entry_cells}
 use Rattle.quad_matrix.specs.declared.chunk.Spot.{Spot}
 use Rattle.quad_matrix.specs.Spots.{side_of, spot_value, block_of_spots, stands_before, spots_rise, IsSpot}
 use Rattle.quad_matrix.proofs.Canonical.{peak-zeros}
@@ -66,10 +67,15 @@ rows_from rows columns (suc n) i g top reach =
 made_from : (rows columns : ℕ) (f : ℕ → ℕ → ℤ) → AreFrom rows columns 1 1 (cells_of (made rows columns f))
 made_from rows columns f = rows_from rows columns rows 1 f (omega arith) (omega arith)
 
+-- the matrix of a market in the general form
+market_matrix : (market : Market) → market.form ≡ General
+    → matrix_of_market market ≡ made market.rows market.columns (λ i j. value_at market.entries (i + 1) (j + 1))
+market_matrix market general = ap (λ form. matrix_listed form market.rows market.columns market.entries) general
+
 -- the entries of a good market are such cells
 market_from : (grid : ℕ) (market : Market) → IsGoodMarket grid market → AreFrom market.rows market.columns 1 1 (entry_cells market.entries)
 market_from grid market good =
-    subst (AreFrom market.rows market.columns 1 1) (sym good.entries)
+    subst (AreFrom market.rows market.columns 1 1) (sym (good.entries ∙ ap₂ cells_listed good.general (market_matrix market good.general)))
     (made_from market.rows market.columns (λ i j. value_at market.entries (i + 1) (j + 1)))
 
 -- ---- Entries counted from 1
@@ -190,8 +196,8 @@ no_entries : (rows columns : ℕ) (es : List Entry) → length es ≡ 0 → peak
 no_entries rows columns [] none = peak-zeros rows columns
 no_entries rows columns (e ∷ es) none = absurd (omega arith)
 
-pub nothing_listed : (b h : ℕ) (market : Market) → length market.entries ≡ 0 → IsListOf b h (matrix_of_market market) None
-nothing_listed b h market none = no_entries market.rows market.columns market.entries none
+pub nothing_listed : (b h : ℕ) (market : Market) → market.form ≡ General → length market.entries ≡ 0 → IsListOf b h (matrix_of_market market) None
+nothing_listed b h market general none = ap peak_of (market_matrix market general) ∙ no_entries market.rows market.columns market.entries none
 
 length_moved : (es : List Entry) → length (map spot_of es) ≡ length es
 length_moved [] = refl
@@ -218,5 +224,5 @@ market_listed b h market spots good leaf_low leaf_high low some moved small =
         rising = moved_rise market.rows market.columns 1 1 es from;
         spots = moved_spots side market.rows market.columns 1 1 es good.rows.1 good.columns.1 from all;
       },
-      block_of_moved side market.rows market.columns es from,
+      block_of_moved side market.rows market.columns es from ∙ ap (completed side) (sym (market_matrix market good.general)),
     )

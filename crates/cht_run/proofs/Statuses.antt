@@ -13,7 +13,8 @@ use Rattle.cht_run.specs.declared.reading.ReadStop.TheVariants as stops
 use Rattle.cht_run.specs.declared.status.Fault.{Fault}
 use Rattle.cht_run.specs.declared.status.Status.{Status}
 use Rattle.cht_run.specs.declared.status.Status.TheVariants.{Done, Usage, Refused, ReadFault, WriteFault, Memory}
-use Rattle.cht_run.specs.Verdict.{most_bytes, verdict, meaning, refusal, too_great}
+use Rattle.cht_script.specs.Verdict.{most_bytes}
+use Rattle.cht_run.specs.Verdict.{told_fault, meaning, refusal, too_great}
 use Rattle.cht_run.specs.Answers.{Answers, WasRead, ReadUpTo, IsSilent, status_by, status_for}
 use Rattle.cht_run.specs.Judged.{Judges}
 use Rattle.cht_run.specs.Running.{Ran}
@@ -22,21 +23,21 @@ use Rattle.cht_run.specs.Reading.{Stopped}
 -- ---- The text that was read, and the whole input
 
 -- a text that is too long
-long_verdict : (text : List ℕ) → 2 ^ 26 < length text → verdict text ≡ Some (record { line = 0; code = 1 })
+long_verdict : (text : List ℕ) → 2 ^ 26 < length text → told_fault text ≡ Some (record { line = 0; code = 1 })
 long_verdict text long = ap (λ (b : Bool). cond b (cond (is_runnable text) None (Some (record { line = 0; code = 20 }))) (Some (record { line = 0; code = 1 }))) (lt-leb (length text) (2 ^ 26) long)
 
 short_input : (input : List ℕ) → length input ≤ 2 ^ 26 → take (2 ^ 26 + 1) input ≡ input
 short_input input short = take_all (2 ^ 26 + 1) input (omega arith)
 
-verdict_read : (input : List ℕ) → verdict (take (2 ^ 26 + 1) input) ≡ verdict input
+verdict_read : (input : List ℕ) → told_fault (take (2 ^ 26 + 1) input) ≡ told_fault input
 verdict_read input =
     elim (cases_lt (2 ^ 26) (length input)) [
-      | inr short ↦ ap verdict (short_input input short)
+      | inr short ↦ ap told_fault (short_input input short)
       | inl long ↦ long_verdict (take (2 ^ 26 + 1) input) (omega (arith, length-take (2 ^ 26 + 1) input)) ∙ sym (long_verdict input long)
     ]
 
 -- an input without a fault is not too long
-good_is_short : (input : List ℕ) → verdict input ≡ None → length input ≤ 2 ^ 26
+good_is_short : (input : List ℕ) → told_fault input ≡ None → length input ≤ 2 ^ 26
 good_is_short input good =
     elim (cases_lt (2 ^ 26) (length input)) [
       | inr short ↦ short
@@ -48,13 +49,13 @@ nothing_left input short = nil_from_length (drop (2 ^ 26 + 1) input) (omega (ari
 
 -- what is known of an input whose text has no fault
 record IsGood (input text : List ℕ) (left : Option (List ℕ)) : Type 0 where
-  good : verdict input ≡ None
+  good : told_fault input ≡ None
   all : left ≡ Some []
   same : text ≡ input
 
-is_good : (input text : List ℕ) (left : Option (List ℕ)) → text ≡ take (2 ^ 26 + 1) input → WasRead input left → verdict text ≡ None → IsGood input text left
+is_good : (input text : List ℕ) (left : Option (List ℕ)) → text ≡ take (2 ^ 26 + 1) input → WasRead input left → told_fault text ≡ None → IsGood input text left
 is_good input text left e read good =
-    let g : verdict input ≡ None = sym (verdict_read input) ∙ ap verdict (sym e) ∙ good in
+    let g : told_fault input ≡ None = sym (verdict_read input) ∙ ap told_fault (sym e) ∙ good in
     let short = good_is_short input g in
     record { good = g; all = read ∙ ap (λ (l : List ℕ). Some l) (nothing_left input short); same = e ∙ short_input input short }
 
@@ -69,7 +70,7 @@ judged_input Done input text left before after read h =
 judged_input Usage input text left before after read h = absurd h
 judged_input (Refused fault) input text left before after read h =
     elim h [
-      | inl fixed ↦ inl (read.1, sym (verdict_read input) ∙ ap verdict (sym read.0) ∙ fixed.0, fixed.1)
+      | inl fixed ↦ inl (read.1, sym (verdict_read input) ∙ ap told_fault (sym read.0) ∙ fixed.0, fixed.1)
       | inr at_run ↦
           let g = is_good input text left read.0 read.1 at_run.0 in
           inr (
@@ -113,14 +114,14 @@ not_built = Some (record { line = 0; code = 20 })
 abbrev too_long : Option Fault
 too_long = Some (record { line = 0; code = 1 })
 
-script_verdict : (text : List ℕ) → is_runnable text ≡ true → length text ≤ 2 ^ 26 → verdict text ≡ None
+script_verdict : (text : List ℕ) → is_runnable text ≡ true → length text ≤ 2 ^ 26 → told_fault text ≡ None
 script_verdict text runs short =
     ap (λ (b : Bool). cond b (cond (is_runnable text) None not_built) too_long) (le-leb (length text) (2 ^ 26) short)
     ∙ ap (λ (b : Bool). cond b None not_built) runs
 
 -- a text that is no script that is run
 pub not_runnable : (text : List ℕ) → is_runnable text ≡ false → length text ≤ 2 ^ 26
-    → verdict text ≡ Some (record { line = 0; code = 20 })
+    → told_fault text ≡ Some (record { line = 0; code = 20 })
 not_runnable text never short =
     ap (λ (b : Bool). cond b (cond (is_runnable text) None not_built) too_long) (le-leb (length text) (2 ^ 26) short)
     ∙ ap (λ (b : Bool). cond b None not_built) never
@@ -128,7 +129,7 @@ not_runnable text never short =
 too_great_is : (fault : Fault) → fault.code ≡ 19 → too_great fault.line ≡ fault
 too_great_is fault e = rw (← e) refl
 
-judged_told : (status : Status) (text : List ℕ) (before after : Option (List ℕ)) → verdict text ≡ None
+judged_told : (status : Status) (text : List ℕ) (before after : Option (List ℕ)) → told_fault text ≡ None
     → Ran status (told_of text) before after → Judges status text before after
 judged_told Done text before after good ran = (good, ap (option_map too_great) ran.0, ran.1)
 judged_told Usage text before after good ran = absurd ran
@@ -145,7 +146,7 @@ judged_run status text script before after is short ran =
     (subst (λ deeds. Ran status (told_by [] deeds) before after) is.deeds ran)
 
 -- a text that is too long
-pub too_long_text : (text : List ℕ) → 2 ^ 26 < length text → verdict text ≡ Some (record { line = 0; code = 1 })
+pub too_long_text : (text : List ℕ) → 2 ^ 26 < length text → told_fault text ≡ Some (record { line = 0; code = 1 })
 too_long_text text long = long_verdict text long
 
 -- ---- Where no device failed

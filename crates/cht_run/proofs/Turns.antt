@@ -8,22 +8,22 @@ use Rattle.dense_def.specs.Matrix.{Matrix, height, entry, plus}
 use Rattle.dense_def.proofs.Entries.{height-made}
 use Rattle.mm_text.specs.declared.market.Form.{Form}
 use Rattle.mm_text.specs.declared.market.Market.{Market}
-use Rattle.mm_text.specs.Block.{value_at}
+use Rattle.mm_text.specs.Block.{number_listed}
 use Rattle.cht_script.specs.declared.script.Statement.{Statement}
 use Rattle.cht_script.specs.declared.script.Statement.TheVariants as statements
 use Rattle.cht_script.specs.declared.script.Slots.{Slots}
 use Rattle.cht_script.specs.declared.script.Verb.{Verb}
 use Rattle.cht_script.specs.declared.script.Verb.TheVariants.{Copy, Add, Mul, TMul, MulT, Square, Full, Trace, Count, Print, Delete}
 use Rattle.cht_script.specs.Statements.{Shape}
-use Rattle.cht_script.specs.Verdict.{Bound, bound}
-use Rattle.cht_script.specs.Meaning.{Known, Deed, Acts as Does, matrix_named, form_named, is_refused, bound_by, text_by, Told, after_text, told_by, line_of}
+use Rattle.cht_script.specs.Verdict.{NamedShape, with_shape}
+use Rattle.cht_script.specs.Meaning.{Known, Deed, Acts as Does, matrix_named, form_named, is_refused, known_by, text_by, Told, after_text, told_by, line_of}
 use Rattle.cht_script.specs.Reading.{deed_of, names_of, name_bytes, AreGood, IsGoodAct, IsGoodMarket, act_binds, matrix_of_market, shape_of_market}
 use Rattle.cht_run.specs.declared.status.Status.{Status}
 use Rattle.cht_run.specs.declared.status.Status.TheVariants as ends
 use Rattle.cht_run.specs.declared.run.Stop.{Stop}
 use Rattle.cht_run.specs.declared.run.Stop.TheVariants as stops
 use Rattle.cht_run.specs.Verdict.{too_great}
-use Rattle.cht_run.specs.Held.{Environment, bound_of}
+use Rattle.cht_run.specs.Held.{Environment, shape_of_known}
 use Rattle.cht_run.specs.Running.{Acts, IsRunning, Ran, Stops}
 use Rattle.cht_run.proofs.Named.{HasShape, has_shape}
 
@@ -37,78 +37,80 @@ wider_market grid side le market good = record {
   entries = good.entries;
 }
 
-pub wider : (grid side : ℕ) → grid ≤ side → (known : List Bound) (all : List Statement) → AreGood grid known all → AreGood side known all
+pub wider : (grid side : ℕ) → grid ≤ side → (known : List NamedShape) (all : List Statement) → AreGood grid known all → AreGood side known all
 wider grid side le known [] good = good
 wider grid side le known (statements.Market line to market ∷ others) good =
-    (good.0, wider_market grid side le market good.1, wider grid side le (known ++ bound (shape_of_market market) (name_bytes to) ∷ []) others good.2)
+    (good.0, wider_market grid side le market good.1, wider grid side le (known ++ with_shape (shape_of_market market) (name_bytes to) ∷ []) others good.2)
 wider grid side le known (statements.Act line verb names inputs ∷ others) good =
-    (good.0, good.1, wider grid side le (known ++ act_binds verb (names_of names) good.0) others good.2)
+    (good.0, good.1, wider grid side le (known ++ act_binds verb (names_of names) good.0) others good.2, good.3)
 
 -- the first of them alone
-pub good_first : (grid : ℕ) (known : List Bound) (one : Statement) (others : List Statement) → AreGood grid known (one ∷ others)
+pub good_first : (grid : ℕ) (known : List NamedShape) (one : Statement) (others : List Statement) → AreGood grid known (one ∷ others)
     → AreGood grid known (one ∷ [])
 good_first grid known (statements.Market line to market) others good = (good.0, good.1, tt)
-good_first grid known (statements.Act line verb names inputs) others good = (good.0, good.1, tt)
+good_first grid known (statements.Act line verb names inputs) others good = (good.0, good.1, tt, good.3)
 
-map_more : (known more : List Known) → map bound_of (known ++ more) ≡ map bound_of known ++ map bound_of more
+map_more : (known more : List Known) → map shape_of_known (known ++ more) ≡ map shape_of_known known ++ map shape_of_known more
 map_more [] more = refl
-map_more (one ∷ others) more = ap (λ bs. bound_of one ∷ bs) (map_more others more)
+map_more (one ∷ others) more = ap (λ bs. shape_of_known one ∷ bs) (map_more others more)
 
 -- the shape of a listed matrix
 shape_of_listed : (to : List ℕ) (market : Market)
-    → bound_of (record { name = to; form = market.form; matrix = matrix_of_market market }) ≡ bound (shape_of_market market) to
+    → shape_of_known (record { name = to; form = market.form; matrix = matrix_of_market market }) ≡ with_shape (shape_of_market market) to
 shape_of_listed to market =
-    ap (λ n. bound (record { rows = n; columns = market.columns; form = market.form }) to)
-    (height-made market.rows market.columns (λ i j. value_at market.entries (i + 1) (j + 1)))
+    ap (λ n. with_shape (record { rows = n; columns = market.columns; form = market.form }) to)
+    (height-made market.rows market.columns (λ i j. number_listed market.form market.entries (i + 1) (j + 1)))
 
 bound_same : (name : List ℕ) (rows columns : ℕ) (form : Form) (shape : Shape) → rows ≡ shape.rows → columns ≡ shape.columns → form ≡ shape.form
-    → bound (record { rows = rows; columns = columns; form = form }) name ≡ bound shape name
+    → with_shape (record { rows = rows; columns = columns; form = form }) name ≡ with_shape shape name
 bound_same name rows columns form shape r c f = rw (r, c, f) refl
 
 -- the shape of a sum
 shape_of_sum : (c : List ℕ) (env : Environment) (a : List ℕ) (slot : ℕ) (b : Matrix) (shape : Shape) → HasShape env a slot shape
-    → bound_of (record { name = c; form = form_named env.known a; matrix = plus (matrix_named env.known a) b }) ≡ bound shape c
+    → shape_of_known (record { name = c; form = form_named env.known a; matrix = plus (matrix_named env.known a) b }) ≡ with_shape shape c
 shape_of_sum c env a slot b shape has =
     let m = matrix_named env.known a in
     bound_same c (height (plus m b)) m.columns (form_named env.known a) shape
     (height-made (height m) m.columns (λ i j. entry m i j +ℤ entry b i j) ∙ ap height has.matrix ∙ has.rows)
     (ap (λ (n : Matrix). n.columns) has.matrix ∙ has.columns) (has.form ∙ has.listed)
 
+-- the names with shapes that are bound after a statement with a verb
 act_next : (env : Environment) (line : ℕ) (verb : Verb) (names : List (List ℕ)) (inputs : Slots) (shape : Shape)
-    → IsGoodAct (map bound_of env.known) verb names inputs shape
-    → map bound_of (bound_by env.known (Does line verb names)) ≡ act_binds verb names shape
+    → IsGoodAct (map shape_of_known env.known) verb names inputs shape
+    → map shape_of_known (known_by env.known (Does line verb names)) ≡ map shape_of_known env.known ++ act_binds verb names shape
 act_next env line Add (c ∷ a ∷ b ∷ []) inputs shape good =
-    ap (λ one. one ∷ [])
+    map_more env.known _
+    ∙ ap (λ one. map shape_of_known env.known ++ one ∷ [])
     (shape_of_sum c env a inputs.first (matrix_named env.known b) shape (has_shape env a inputs.first shape good.1))
-act_next env line Trace (a ∷ []) inputs shape good = refl
-act_next env line Print (a ∷ []) inputs shape good = refl
-act_next env line Copy names inputs shape good = absurd good
+act_next env line Trace (a ∷ []) inputs shape good = map_more env.known []
+act_next env line Print (a ∷ []) inputs shape good = map_more env.known []
 act_next env line Add [] inputs shape good = absurd good
 act_next env line Add (c ∷ []) inputs shape good = absurd good
 act_next env line Add (c ∷ (a ∷ [])) inputs shape good = absurd good
 act_next env line Add (c ∷ (a ∷ (b ∷ (_ ∷ _)))) inputs shape good = absurd good
+act_next env line Trace [] inputs shape good = absurd good
+act_next env line Trace (a ∷ (_ ∷ _)) inputs shape good = absurd good
+act_next env line Print [] inputs shape good = absurd good
+act_next env line Print (a ∷ (_ ∷ _)) inputs shape good = absurd good
+act_next env line Copy names inputs shape good = absurd good
 act_next env line Mul names inputs shape good = absurd good
 act_next env line TMul names inputs shape good = absurd good
 act_next env line MulT names inputs shape good = absurd good
 act_next env line Square names inputs shape good = absurd good
 act_next env line Full names inputs shape good = absurd good
-act_next env line Trace [] inputs shape good = absurd good
-act_next env line Trace (a ∷ (_ ∷ _)) inputs shape good = absurd good
 act_next env line Count names inputs shape good = absurd good
-act_next env line Print [] inputs shape good = absurd good
-act_next env line Print (a ∷ (_ ∷ _)) inputs shape good = absurd good
 act_next env line Delete names inputs shape good = absurd good
 
 -- those behind the first, once it took effect
 pub good_next : (grid : ℕ) (env : Environment) (one : Statement) (others : List Statement)
-    → AreGood grid (map bound_of env.known) (one ∷ others)
-    → AreGood grid (map bound_of (env.known ++ bound_by env.known (deed_of one))) others
+    → AreGood grid (map shape_of_known env.known) (one ∷ others)
+    → AreGood grid (map shape_of_known (known_by env.known (deed_of one))) others
 good_next grid env (statements.Market line to market) others good =
     subst (λ known. AreGood grid known others)
-    (sym (map_more env.known _ ∙ ap (λ one. map bound_of env.known ++ one ∷ []) (shape_of_listed (name_bytes to) market))) good.2
+    (sym (map_more env.known _ ∙ ap (λ one. map shape_of_known env.known ++ one ∷ []) (shape_of_listed (name_bytes to) market))) good.2
 good_next grid env (statements.Act line verb names inputs) others good =
     subst (λ known. AreGood grid known others)
-    (sym (map_more env.known _ ∙ ap (λ more. map bound_of env.known ++ more) (act_next env line verb (names_of names) inputs good.0 good.1)))
+    (sym (act_next env line verb (names_of names) inputs good.0 good.1))
     good.2
 
 -- ---- A run
@@ -130,14 +132,14 @@ told_more : (text more : List ℕ) (told : Told) → after_text text (after_text
 told_more text more told = ap (λ t. record told { text = t }) (sym (append_assoc text more told.text))
 
 told_next : (known : List Known) (deed : Deed) (deeds : List Deed) → is_refused known deed ≡ false
-    → told_by known (deed ∷ deeds) ≡ after_text (text_by known deed) (told_by (known ++ bound_by known deed) deeds)
+    → told_by known (deed ∷ deeds) ≡ after_text (text_by known deed) (told_by (known_by known deed) deeds)
 told_next known deed deeds e =
-    ap (λ b. cond b (record { text = []; refused = Some (line_of deed) }) (after_text (text_by known deed) (told_by (known ++ bound_by known deed) deeds))) e
+    ap (λ b. cond b (record { text = []; refused = Some (line_of deed) }) (after_text (text_by known deed) (told_by (known_by known deed) deeds))) e
 
 told_refused : (known : List Known) (deed : Deed) (deeds : List Deed) → is_refused known deed ≡ true
     → told_by known (deed ∷ deeds) ≡ record { text = []; refused = Some (line_of deed) }
 told_refused known deed deeds e =
-    ap (λ b. cond b (record { text = []; refused = Some (line_of deed) }) (after_text (text_by known deed) (told_by (known ++ bound_by known deed) deeds))) e
+    ap (λ b. cond b (record { text = []; refused = Some (line_of deed) }) (after_text (text_by known deed) (told_by (known_by known deed) deeds))) e
 
 -- one more statement took effect
 pub running_next : (all : List Statement) (one : Statement) (others : List Statement) (env later : Environment)
@@ -150,7 +152,7 @@ running_next all one others env later before now after done run acts =
       told =
           run.told
           ∙ ap (after_text run.text) (told_next env.known deed (map deed_of others) acts.0)
-          ∙ told_more run.text (text_by env.known deed) (told_by (env.known ++ bound_by env.known deed) (map deed_of others))
+          ∙ told_more run.text (text_by env.known deed) (told_by (known_by env.known deed) (map deed_of others))
           ∙ ap (λ (e : Environment). after_text (run.text ++ text_by env.known deed) (told_by e.known (map deed_of others))) (sym acts.1);
       wrote = Adds_then before now after run.text (text_by env.known deed) run.wrote acts.2;
     }
@@ -170,7 +172,7 @@ running_stops all one others env later before now after stops.Refused status run
 running_stops all one others env later before now after stops.WriteFault status run acts is =
     let deed = deed_of one in
     let told : told_by [] (map deed_of all)
-    ≡ after_text run.text (after_text (text_by env.known deed) (told_by (env.known ++ bound_by env.known deed) (map deed_of others))) =
+    ≡ after_text run.text (after_text (text_by env.known deed) (told_by (known_by env.known deed) (map deed_of others))) =
     run.told ∙ ap (after_text run.text) (told_next env.known deed (map deed_of others) acts.0) in
     subst (λ s. Ran s (told_by [] (map deed_of all)) before after) (sym is)
     (subst (λ t. Ran ends.WriteFault t before after) (sym told)

@@ -1,10 +1,10 @@
 -- What a run holds: the names that are bound, with their matrices.
 use Rattle.std.specs.Prelude.{◌≡◌, ℕ, ◌+◌, ◌*◌, Bool, true, false, nat_le, List, [], ◌∷◌, ◌++◌, slice_get, Option, None, Some, ℤ}
-use Rattle.dense_def.specs.Matrix.{Matrix, made, entry, height, zeros, plus, trace_of, peak_of}
+use Rattle.dense_def.specs.Matrix.{Matrix, made, entry, height, plus, trace_of, peak_of}
 use Rattle.mm_text.specs.declared.market.Form.{Form}
 use Rattle.mm_text.specs.declared.market.Form.TheVariants.{General}
-use Rattle.cht_script.specs.Verdict.{Bound}
-use Rattle.cht_script.specs.Meaning.{Known, limit}
+use Rattle.cht_script.specs.Verdict.{NamedShape}
+use Rattle.cht_script.specs.Meaning.{Known, matrix_found, form_found, limit}
 
 -- the names that are bound, where all matrices are completed by zeros to squares of one side
 pub record Environment : Type 0 where
@@ -16,21 +16,17 @@ abbrev pub with_matrix : Environment → List ℕ → Matrix → Environment
 with_matrix env name m =
     record env { known = env.known ++ record { name = name; form = General; matrix = m } ∷ [] }
 
--- the matrix of binding number `slot`, counted from 0; one without rows and columns past the last
-abbrev pub matrix_of_slot : Option Known → Matrix
-matrix_of_slot None = zeros 0 0
-matrix_of_slot (Some known) = known.matrix
-
+-- the matrix that was bound with number `slot`, counted from 0; one without rows and columns past the last
 abbrev pub matrix_at : Environment → ℕ → Matrix
-matrix_at env slot = matrix_of_slot (slice_get env.known slot)
+matrix_at env slot = matrix_found (slice_get env.known slot)
 
 -- a matrix completed by zeros to a square of that side
 abbrev pub completed : ℕ → Matrix → Matrix
 completed side m = made side side (λ i j. entry m i j)
 
--- the shape of a binding
-abbrev pub bound_of : Known → Bound
-bound_of known =
+-- a name with the shape of its matrix
+abbrev pub shape_of_known : Known → NamedShape
+shape_of_known known =
     record {
       name = known.name;
       shape = record { rows = height known.matrix; columns = known.matrix.columns; form = known.form };
@@ -44,13 +40,9 @@ sum_fits a b = nat_le (peak_of a + peak_of b) limit
 abbrev pub trace_fits : Matrix → Bool
 trace_fits a = nat_le (height a * peak_of a) limit
 
--- the form of a binding, general past the last
-abbrev pub form_of_slot : Option Known → Form
-form_of_slot None = General
-form_of_slot (Some known) = known.form
-
+-- the form that was bound with number `slot`; general past the last
 abbrev pub form_at : Environment → ℕ → Form
-form_at env slot = form_of_slot (slice_get env.known slot)
+form_at env slot = form_found (slice_get env.known slot)
 
 -- one more name, with the sum of two bindings in the form of the first
 abbrev pub with_sum : Environment → List ℕ → ℕ → ℕ → Environment

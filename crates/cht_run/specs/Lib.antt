@@ -9,6 +9,6 @@ pub mod Running
 pub mod Nodes
 pub mod Parts
 pub mod Numbers
-pub mod Bindings
+pub mod HeldMatrices
 pub mod Listed
 pub mod Rows

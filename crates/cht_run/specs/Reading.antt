@@ -3,7 +3,7 @@ use Rattle.std.specs.Prelude.{◌≡◌, ℕ, ◌+◌, Bool, true, false, List, 
 use Rattle.std.specs.Global.{Vec}
 use Rattle.cht_run.specs.declared.reading.ReadStop.{ReadStop}
 use Rattle.cht_run.specs.declared.reading.ReadStop.TheVariants.{Failed, Memory}
-use Rattle.cht_run.specs.Verdict.{most_bytes}
+use Rattle.cht_script.specs.Verdict.{most_bytes}
 use Rattle.cht_run.specs.Answers.{WasRead, ReadUpTo}
 
 -- the text is the input, or as much of it as is one byte too many; or the reading stopped before

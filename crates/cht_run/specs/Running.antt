@@ -3,9 +3,10 @@ use Rattle.std.specs.Prelude.{◌≡◌, ℕ, true, false, List, [], ◌∷◌, 
 use Rattle.cht_io.specs.Bytes.{Adds, AddsFront}
 use Rattle.cht_ids.specs.Numeral.{number_text}
 use Rattle.dense_def.specs.Matrix.{Matrix, trace_of}
-use Rattle.mm_text.specs.Written.{general_text}
+use Rattle.mm_text.specs.declared.market.Form.{Form}
+use Rattle.mm_text.specs.Written.{matrix_text}
 use Rattle.cht_script.specs.declared.script.Statement.{Statement}
-use Rattle.cht_script.specs.Meaning.{Deed, is_refused, bound_by, text_by, Told, after_text, told_by}
+use Rattle.cht_script.specs.Meaning.{Deed, is_refused, known_by, text_by, Told, after_text, told_by}
 use Rattle.cht_script.specs.declared.script.Slots.{Slots}
 use Rattle.cht_script.specs.declared.script.Verb.{Verb}
 use Rattle.cht_script.specs.Statements.{Shape}
@@ -15,13 +16,13 @@ use Rattle.cht_run.specs.declared.status.Status.TheVariants.{Done, Usage, Refuse
 use Rattle.cht_run.specs.declared.run.Stop as stop
 use Rattle.cht_run.specs.declared.run.Stop.TheVariants as stops
 use Rattle.cht_run.specs.Verdict.{too_great}
-use Rattle.cht_run.specs.Held.{Environment, bound_of, IsBoundSum, trace_fits}
+use Rattle.cht_run.specs.Held.{Environment, shape_of_known, IsBoundSum, trace_fits}
 
 -- What one statement did: it took effect, or it was refused, or the run stopped in its text or before it.
 abbrev pub Acts : Deed → Result (Unit {0}) stop.Stop → Environment → Environment → Option (List ℕ) → Option (List ℕ) → Type 0
 Acts deed (Ok done) env later before after =
     (is_refused env.known deed ≡ false)
-    × (later ≡ record env { known = env.known ++ bound_by env.known deed })
+    × (later ≡ record env { known = known_by env.known deed })
     × Adds before (text_by env.known deed) after
 Acts deed (Err stops.Refused) env later before after = (is_refused env.known deed ≡ true) × (after ≡ before)
 Acts deed (Err stops.WriteFault) env later before after =
@@ -30,7 +31,7 @@ Acts deed (Err stops.Memory) env later before after = after ≡ before
 
 -- what is known of a statement with a verb that comes next, for a fitting shape of its inputs
 abbrev pub IsReady : Environment → Verb → List (List ℕ) → Slots → Type 0
-IsReady env verb names inputs = (shape : Shape) × IsGoodAct (map bound_of env.known) verb names inputs shape
+IsReady env verb names inputs = (shape : Shape) × IsGoodAct (map shape_of_known env.known) verb names inputs shape
 
 -- a sum was bound to a name, or it does not fit; where memory ran out nothing is said of it
 abbrev pub IsAdded : Result (Unit {0}) stop.Stop → Environment → List ℕ → ℕ → ℕ → Environment → Type 0
@@ -47,12 +48,12 @@ IsTraceWritten (Err stops.WriteFault) a before after =
     (trace_fits a ≡ true) × AddsFront before (number_text (trace_of a) ++ 10 ∷ []) after
 IsTraceWritten (Err stops.Memory) a before after = after ≡ before
 
--- the text of a matrix was written, or the writing stopped
-abbrev pub IsPrinted : Result (Unit {0}) stop.Stop → Matrix → Option (List ℕ) → Option (List ℕ) → Type 0
-IsPrinted (Ok done) a before after = Adds before (general_text a) after
-IsPrinted (Err stops.Refused) a before after = ⊥
-IsPrinted (Err stops.WriteFault) a before after = AddsFront before (general_text a) after
-IsPrinted (Err stops.Memory) a before after = after ≡ before
+-- the text of a matrix in a form was written, or the writing stopped
+abbrev pub IsPrinted : Result (Unit {0}) stop.Stop → Form → Matrix → Option (List ℕ) → Option (List ℕ) → Type 0
+IsPrinted (Ok done) form a before after = Adds before (matrix_text form a) after
+IsPrinted (Err stops.Refused) form a before after = ⊥
+IsPrinted (Err stops.WriteFault) form a before after = AddsFront before (matrix_text form a) after
+IsPrinted (Err stops.Memory) form a before after = after ≡ before
 
 -- how a run ends whose statement on a line stopped
 abbrev pub Stops : stop.Stop → ℕ → Status → Type 0

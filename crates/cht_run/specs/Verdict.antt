@@ -1,17 +1,14 @@
--- What is wrong with a text, if anything, and what it means where nothing is.
-use Rattle.std.specs.Prelude.{ℕ, ◌^◌, nat_le, if◌then◌else◌, List, length, Option, None, Some, option_map}
-use Rattle.cht_script.specs.Verdict.{is_runnable}
+-- The fault that is told of a text today, if any, and what the text means where there is none.
+use Rattle.std.specs.Prelude.{ℕ, nat_le, if◌then◌else◌, List, length, Option, None, Some, option_map}
+use Rattle.cht_script.specs.Verdict.{most_bytes, is_runnable}
 use Rattle.cht_script.specs.Meaning.{told_of}
 use Rattle.cht_run.specs.declared.status.Fault.{Fault}
 
--- the most bytes that a script may have
-abbrev pub most_bytes : ℕ
-most_bytes = 2 ^ 26
-
--- The fault of a text for which nothing is run, if it has one. Line 0 is the text as a whole: code 1 where it is too long, code
--- 20 where it has a fault, or a symmetric block, or a statement that is not run.
-abbrev pub verdict : List ℕ → Option Fault
-verdict text =
+-- The fault that is told of a text for which nothing is run, in place of the located one that the verdict of scripts gives. Line 0
+-- is the text as a whole: code 1 where it is too long, code 20 where it has a fault, or a symmetric block, or a statement that is
+-- not run.
+abbrev pub told_fault : List ℕ → Option Fault
+told_fault text =
     if nat_le (length text) most_bytes
     then (if is_runnable text then None else Some (record { line = 0; code = 20 }))
     else Some (record { line = 0; code = 1 })

@@ -1,15 +1,15 @@
 ghost use Rattle.std.specs.Prelude.{◌≡◌, ◌<◌, ◌≤◌, [], length, IfOk, OnOk};
 ghost use Rattle.dense_def.specs.Matrix.{height};
-ghost use Rattle.mm_text.specs.Cells.{cells_of};
+ghost use Rattle.mm_text.specs.Cells.{cells_listed};
 ghost use Rattle.quad_matrix.specs.Spots.{side_of};
 ghost use Rattle.cht_script.specs.Reading.{name_bytes, IsGoodMarket, matrix_of_market};
-ghost use Rattle.cht_run.specs.Held.{with_matrix, matrix_at, IsBoundSum, IsTraceOf};
+ghost use Rattle.cht_run.specs.Held.{with_matrix, matrix_at, form_at, IsBoundSum, IsTraceOf};
 
-use crate::binding::{Binding, listed, sum, trace};
+use crate::held_matrix::{HeldMatrix, listed, sum, trace};
 use crate::cells::cells_in;
 use cht_ids::Memory;
 use cht_script::Name;
-use mm_text::{Cell, Market};
+use mm_text::{Cell, Form, Market};
 use std::alloc::Global;
 use std::marker::Model;
 
@@ -20,7 +20,7 @@ pub(crate) struct Held {
     // The side of a leaf block, and how many levels the trees have above the leaves.
     leaf: u32,
     height: u32,
-    bindings: Vec<Binding>,
+    named: Vec<HeldMatrix>,
 }
 
 impl Model for Held {
@@ -28,11 +28,11 @@ impl Model for Held {
 
     ghost Value = { Environment };
 
-    ghost use Rattle.cht_run.specs.Bindings.{environment_of, AreHeld};
+    ghost use Rattle.cht_run.specs.HeldMatrices.{environment_of, AreHeld};
 
-    ghost view = { λ held. environment_of held.leaf held.height held.bindings.items };
+    ghost view = { λ held. environment_of held.leaf held.height held.named.items };
 
-    ghost invariant = { λ held. AreHeld held.leaf held.height held.bindings.items };
+    ghost invariant = { λ held. AreHeld held.leaf held.height held.named.items };
 }
 
 impl Held {
@@ -47,21 +47,21 @@ impl Held {
             alloc,
             leaf,
             height,
-            bindings: Vec::new(alloc),
+            named: Vec::new(alloc),
         }
     }
 
-    /// Binds a name to a matrix that a script lists. After `Memory` nothing has changed.
+    /// IsHeldAs a name to a matrix that a script lists. After `Memory` nothing has changed.
     pub(crate) fn bind_market(&mut self, name: Name, market: &Market) -> Result<(), Memory>
         requires { IsGoodMarket self.old.side market.now }
         ensures bound { OnOk result (self.new ≡ with_matrix self.old (name_bytes name) (matrix_of_market market.now)) }
     {
         let binding = listed(self.alloc, self.leaf, self.height, name, market)?;
-        self.bindings.push(binding)?;
+        self.named.push(binding)?;
         Ok(())
     }
 
-    /// Binds a name to the sum of two matrices of one shape, and answers true; or false where the sum of their peaks exceeds
+    /// IsHeldAs a name to the sum of two matrices of one shape, and answers true; or false where the sum of their peaks exceeds
     /// the limit, and then nothing changes.
     pub(crate) fn bind_sum(&mut self, name: Name, first: u32, second: u32) -> Result<bool, Memory>
         requires first { first < length self.old.known }
@@ -70,12 +70,12 @@ impl Held {
         requires columns { (matrix_at self.old first).columns ≡ (matrix_at self.old second).columns }
         ensures { IfOk result (λ fits. IsBoundSum fits self.old (name_bytes name) first second self.new) }
     {
-        let a = &self.bindings[first as usize];
-        let b = &self.bindings[second as usize];
+        let a = &self.named[first as usize];
+        let b = &self.named[second as usize];
         match sum(self.alloc, self.leaf, self.height, name, a, b)? {
             None => Ok(false),
             Some(binding) => {
-                self.bindings.push(binding)?;
+                self.named.push(binding)?;
                 Ok(true)
             }
         }
@@ -88,26 +88,27 @@ impl Held {
         requires square { height (matrix_at self.now slot) ≡ (matrix_at self.now slot).columns }
         ensures { IfOk result (IsTraceOf (matrix_at self.now slot)) }
     {
-        let binding = &self.bindings[slot as usize];
+        let binding = &self.named[slot as usize];
         trace(self.alloc, self.leaf, self.height, binding)
     }
 
-    /// How many rows and columns a matrix has.
-    pub(crate) fn shape(&self, slot: u32) -> (u32, u32)
+    /// In which form a matrix is listed, and how many rows and columns it has.
+    pub(crate) fn shape(&self, slot: u32) -> (Form, u32, u32)
         requires { slot < length self.now.known }
-        ensures rows { result.0 ≡ height (matrix_at self.now slot) }
-        ensures columns { result.1 ≡ (matrix_at self.now slot).columns }
+        ensures form { result.0 ≡ form_at self.now slot }
+        ensures rows { result.1 ≡ height (matrix_at self.now slot) }
+        ensures columns { result.2 ≡ (matrix_at self.now slot).columns }
     {
-        let binding = &self.bindings[slot as usize];
-        (binding.rows, binding.columns)
+        let binding = &self.named[slot as usize];
+        (Form::General, binding.rows, binding.columns)
     }
 
-    /// The numbers of a matrix that are not zero, row by row and within a row by rising column.
+    /// The numbers of a matrix that its form lists, those that are not zero, row by row and within a row by rising column.
     pub(crate) fn cells(&self, slot: u32) -> Result<Vec<Cell>, Memory>
         requires { slot < length self.now.known }
-        ensures { IfOk result (λ cells. cells.items ≡ cells_of (matrix_at self.now slot)) }
+        ensures { IfOk result (λ cells. cells.items ≡ cells_listed (form_at self.now slot) (matrix_at self.now slot)) }
     {
-        let binding = &self.bindings[slot as usize];
+        let binding = &self.named[slot as usize];
         cells_in(
             self.alloc,
             self.leaf,

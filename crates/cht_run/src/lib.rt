@@ -1,10 +1,10 @@
 //! The run of a script, from the words of the command line and the bytes of a source to the bytes of a sink.
 #![tactic(auto)]
 
-mod binding;
 mod cells;
 mod command;
 mod held;
+mod held_matrix;
 mod library;
 mod listed;
 mod notes;

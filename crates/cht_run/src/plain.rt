@@ -5,12 +5,12 @@ ghost use Rattle.cht_run.specs.Judged.{Judges};
 ghost use Rattle.cht_run.specs.Notes.{Notes};
 
 use crate::notes::tell;
-use crate::reading::{MOST_BYTES, ReadStop, read_all};
+use crate::reading::{ReadStop, read_all};
 use crate::run::run_script;
 use crate::status::{Fault, Status};
 use cht_ids::Memory;
 use cht_io::{Sink, Source};
-use cht_script::read_script;
+use cht_script::{MOST_BYTES, read_script};
 use std::alloc::Global;
 
 /// Runs the script of a source on the calling thread: reads it to its end, does its statements in order, up to the first

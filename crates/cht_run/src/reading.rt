@@ -1,14 +1,12 @@
 ghost use Rattle.std.specs.Prelude.{◌≡◌, ◌+◌, ◌<◌, ◌≤◌, List, ℕ, Some, Ok, Err, true, length, vec_len, IfOk};
-ghost use Rattle.cht_run.specs.Verdict.{most_bytes};
+ghost use Rattle.cht_script.specs.Verdict.{most_bytes};
 ghost use Rattle.cht_io.specs.Faults.{Rose};
 ghost use Rattle.cht_run.specs.Reading.{Stopped, IsReading, Turns, Ends};
 
 use cht_ids::Memory;
 use cht_io::Source;
+use cht_script::MOST_BYTES;
 use std::alloc::{AllocError, Global};
-
-/// The most bytes that a script may have.
-pub(crate) const MOST_BYTES: usize = 1 << 26;
 
 // How many bytes a source is asked for at a time.
 const PIECE: usize = 1 << 16;

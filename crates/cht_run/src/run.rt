@@ -4,7 +4,7 @@ ghost use Rattle.quad_matrix.specs.Spots.{side_of};
 ghost use Rattle.dense_def.specs.Matrix.{height};
 ghost use Rattle.cht_script.specs.Meaning.{line_of, told_by, Acts as Does};
 ghost use Rattle.cht_script.specs.Reading.{deed_of, name_bytes, names_of, AreGood};
-ghost use Rattle.cht_run.specs.Held.{matrix_at, bound_of};
+ghost use Rattle.cht_run.specs.Held.{matrix_at, form_at, shape_of_known};
 ghost use Rattle.cht_run.specs.Running.{Acts, IsReady, Ran, IsAdded, IsTraceWritten, IsPrinted, Stops};
 
 use crate::held::Held;
@@ -12,7 +12,7 @@ use crate::status::{Fault, Status};
 use cht_ids::{Memory, write_number};
 use cht_io::{Failed, Sink, write_all};
 use cht_script::{Name, Names, Script, Slots, Statement, Verb};
-use mm_text::{Form, write_market};
+use mm_text::write_market;
 use std::alloc::Global;
 
 /// Why a statement did not take effect.
@@ -89,7 +89,7 @@ fn stopped(stop: Stop, line: u64) -> Status
 
 // Does one statement.
 fn act<K: Sink>(held: &mut Held, statement: &Statement, out: &mut K) -> Result<(), Stop>
-    requires good { AreGood held.old.side (map bound_of held.old.known) (statement.now ∷ []) }
+    requires good { AreGood held.old.side (map shape_of_known held.old.known) (statement.now ∷ []) }
     ensures acts { Acts (deed_of statement.now) result held.old held.new (K.took out.old) (K.took out.new) }
     ensures cause { result ≡ Err Stop.WriteFault → Rose (K.faults out.old) (K.faults out.new) }
     ensures later { K.faults out.old ≤ K.faults out.new }
@@ -131,7 +131,7 @@ fn act_on<K: Sink>(
     }
 }
 
-// Binds a name to the sum of two matrices.
+// IsHeldAs a name to the sum of two matrices.
 fn add(held: &mut Held, name: Name, inputs: Slots) -> Result<(), Stop>
     requires first { inputs.first < length held.old.known }
     requires second { inputs.second < length held.old.known }
@@ -166,12 +166,12 @@ fn write_trace<K: Sink>(held: &Held, slot: u32, out: &mut K) -> Result<(), Stop>
 // Writes the text of a matrix.
 fn print<K: Sink>(held: &Held, slot: u32, out: &mut K) -> Result<(), Stop>
     requires { slot < length held.now.known }
-    ensures printed { IsPrinted result (matrix_at held.now slot) (K.took out.old) (K.took out.new) }
+    ensures printed { IsPrinted result (form_at held.now slot) (matrix_at held.now slot) (K.took out.old) (K.took out.new) }
     ensures cause { result ≡ Err Stop.WriteFault → Rose (K.faults out.old) (K.faults out.new) }
     ensures later { K.faults out.old ≤ K.faults out.new }
 {
-    let (rows, columns) = held.shape(slot);
+    let (form, rows, columns) = held.shape(slot);
     let cells = held.cells(slot)?;
-    write_market(out, Form::General, rows, columns, &cells)?;
+    write_market(out, form, rows, columns, &cells)?;
     Ok(())
 }

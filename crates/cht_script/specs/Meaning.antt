@@ -148,19 +148,19 @@ form_given Print form = form
 form_given Delete form = form
 
 -- a name with this form and this matrix
-abbrev pub with_matrix : Form → Matrix → List ℕ → Known
-with_matrix form m name = record { name = name; form = form; matrix = m }
+abbrev pub named_matrix : Form → Matrix → List ℕ → Known
+named_matrix form m name = record { name = name; form = form; matrix = m }
 
 -- what a verb with these names binds to its new name, if it has one
 abbrev pub bound_by_verb : List Known → Verb → List (List ℕ) → List (List ℕ) → List Known
 bound_by_verb known verb new inputs =
     map
-    (with_matrix (form_given verb (first_form known inputs)) (matrix_given verb (first_matrix known inputs) (second_matrix known inputs)))
+    (named_matrix (form_given verb (first_form known inputs)) (matrix_given verb (first_matrix known inputs) (second_matrix known inputs)))
     new
 
 -- the name that a statement binds, with its form and its matrix
 abbrev pub bound_by : List Known → Deed → List Known
-bound_by known (Lists n name form m) = with_matrix form m name ∷ []
+bound_by known (Lists n name form m) = named_matrix form m name ∷ []
 bound_by known (Acts n verb names) = bound_by_verb known verb (new_names (Act verb names)) (input_names (Act verb names))
 
 -- the names but this one

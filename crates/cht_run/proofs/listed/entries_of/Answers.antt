@@ -6,7 +6,7 @@ use Rattle.cht_run.proofs.listed.entries_of.Goals as goal
 
 pub returns-then-is_empty : goal.returns-then-is_empty
 returns-then-is_empty c =
-    nothing_listed c.args.leaf c.args.height c.args.market.now
+    nothing_listed c.args.leaf c.args.height c.args.market.now c.requires.good.general
     (eqb-true (length c.args.market.now.entries) 0 (sym c.is_empty.ensures ∙ c.if-is_empty.true))
 
 pub spots_of-requires : goal.spots_of-requires

@@ -3,8 +3,28 @@ use Rattle.cht_script.specs.declared.script.Verb.{Verb}
 use Rattle.cht_script.specs.Meaning.{Acts as Does}
 use Rattle.cht_script.specs.Reading.{names_of}
 use Rattle.cht_run.specs.Running.{Acts, IsReady}
-use Rattle.cht_run.proofs.Deeds.{are_summands, is_traced, adds, traced, printed}
+use Rattle.cht_run.proofs.Deeds.{are_summands, is_traced, is_printed, adds, traced, printed}
 use Rattle.cht_run.proofs.run.act_on.Goals as goal
+
+pub add-requires-clause-first : goal.add-requires-clause-first
+add-requires-clause-first g c =
+    let ready = subst (λ (v : Verb). IsReady c.args.held.now v (names_of c.args.names.now) c.args.inputs) c.in-Add.is c.requires.good in
+    (are_summands c.args.held.now (names_of c.args.names.now) c.args.inputs ready).first
+
+pub add-requires-clause-second : goal.add-requires-clause-second
+add-requires-clause-second g c =
+    let ready = subst (λ (v : Verb). IsReady c.args.held.now v (names_of c.args.names.now) c.args.inputs) c.in-Add.is c.requires.good in
+    (are_summands c.args.held.now (names_of c.args.names.now) c.args.inputs ready).second
+
+pub write_trace-requires-clause-known : goal.write_trace-requires-clause-known
+write_trace-requires-clause-known g c =
+    let ready = subst (λ (v : Verb). IsReady c.args.held.now v (names_of c.args.names.now) c.args.inputs) c.in-Trace.is c.requires.good in
+    (is_traced c.args.held.now (names_of c.args.names.now) c.args.inputs ready).within
+
+pub print-requires : goal.print-requires
+print-requires g c =
+    let ready = subst (λ (v : Verb). IsReady c.args.held.now v (names_of c.args.names.now) c.args.inputs) c.in-Print.is c.requires.good in
+    is_printed c.args.held.now (names_of c.args.names.now) c.args.inputs ready
 
 pub add-requires-clause-rows : goal.add-requires-clause-rows
 add-requires-clause-rows g c =

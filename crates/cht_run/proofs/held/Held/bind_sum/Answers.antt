@@ -2,7 +2,7 @@ use Rattle.std.proofs.Common.{refl, sym, ap, ap₂, ◌∙◌}
 use Rattle.dense_def.specs.Matrix.{Matrix, height}
 use Rattle.cht_script.specs.Reading.{name_bytes}
 use Rattle.cht_run.specs.Held.{sum_fits, matrix_at, form_at}
-use Rattle.cht_run.specs.Bindings.{matrix_in}
+use Rattle.cht_run.specs.HeldMatrices.{matrix_in}
 use Rattle.cht_run.proofs.Kept.{slot_matrix, slot_form, held_tall, sum_known, one_more}
 use Rattle.cht_run.proofs.held.Held.bind_sum.Goals as goal
 
@@ -10,7 +10,7 @@ pub sum-requires-clause-rows : goal.sum-requires-clause-rows
 sum-requires-clause-rows c =
     let b = c.self.inside.leaf in
     let h = c.self.inside.height in
-    let items = c.self.inside.bindings.items in
+    let items = c.self.inside.named.items in
     let x = c.index-a.result.now in
     let y = c.index-b.result.now in
     let first = slot_matrix b h items c.args.self.now c.args.first x c.self.view_is c.requires.first c.index-a.ensures in
@@ -21,7 +21,7 @@ pub sum-requires-clause-columns : goal.sum-requires-clause-columns
 sum-requires-clause-columns c =
     let b = c.self.inside.leaf in
     let h = c.self.inside.height in
-    let items = c.self.inside.bindings.items in
+    let items = c.self.inside.named.items in
     let first = slot_matrix b h items c.args.self.now c.args.first c.index-a.result.now c.self.view_is c.requires.first c.index-a.ensures in
     let second = slot_matrix b h items c.args.self.now c.args.second c.index-b.result.now c.self.view_is c.requires.second c.index-b.ensures in
     sym (ap (λ (m : Matrix). m.columns) first) ∙ c.requires.columns ∙ ap (λ (m : Matrix). m.columns) second
@@ -30,7 +30,7 @@ pub returns-in-None : goal.returns-in-None
 returns-in-None c =
     let b = c.self.inside.leaf in
     let h = c.self.inside.height in
-    let items = c.self.inside.bindings.items in
+    let items = c.self.inside.named.items in
     let first = slot_matrix b h items c.args.self.now c.args.first c.index-a.result.now c.self.view_is c.requires.first c.index-a.ensures in
     let second = slot_matrix b h items c.args.self.now c.args.second c.index-b.result.now c.self.view_is c.requires.second c.index-b.ensures in
     (ap₂ sum_fits first second ∙ rw c.in-None.is at c.in_ok-sum.ensures, refl)
@@ -39,7 +39,7 @@ pub returns-in_ok-push-in-Some : goal.returns-in_ok-push-in-Some
 returns-in_ok-push-in-Some c =
     let b = c.self.inside.leaf in
     let h = c.self.inside.height in
-    let items = c.self.inside.bindings.items in
+    let items = c.self.inside.named.items in
     let env = c.args.self.now in
     let x = c.index-a.result.now in
     let y = c.index-b.result.now in
