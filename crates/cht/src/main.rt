@@ -2,9 +2,6 @@
 //! work. It ends with the number of the status: 0 done, 1 usage, 2 refused, 3 read fault, 4 write fault, 5 memory.
 #![tactic(auto)]
 
-#[cfg(test)]
-mod tests;
-
 use cht_io::{StdSink, StdSource};
 use cht_run::cht;
 use std::env;

@@ -25,11 +25,12 @@ abbrev pub unsigned_below : ℕ → List ℕ → Option ℕ
 unsigned_below bound digits =
     if are_digits digits && nat_lt (digits_value digits) bound then Some (digits_value digits) else None
 
--- the number as it is, and with its sign turned
+-- the number as it is
 abbrev pub positive : Option ℕ → Option ℤ
 positive None = None
 positive (Some n) = Some (pos n)
 
+-- the number with its sign turned
 abbrev pub negative : Option ℕ → Option ℤ
 negative None = None
 negative (Some n) = Some (neg_ℤ (pos n))

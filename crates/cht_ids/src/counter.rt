@@ -35,15 +35,3 @@ impl Counter {
         number
     }
 }
-
-#[cfg(test)]
-mod tests {
-    use super::*;
-
-    #[test]
-    fn the_first_draw_is_one(rt: HostRuntime) {
-        let mut counter = Counter::new();
-        assert_eq!(rt; counter.next(), 1);
-        assert_eq!(rt; counter.next(), 2);
-    }
-}

@@ -32,37 +32,3 @@ fn product_fits(a: u128, b: u128) -> bool
         Some(product) => product <= LIMIT,
     }
 }
-
-#[cfg(test)]
-mod tests {
-    use super::*;
-
-    #[test]
-    fn sums_fit_up_to_the_limit(rt: HostRuntime) {
-        let cases = [
-            (LIMIT, 0, true),
-            (LIMIT - 1, 1, true),
-            (LIMIT, 1, false),
-            (1, LIMIT, false),
-            (u128::MAX, u128::MAX, false),
-        ];
-        for (a, b, fits) in cases {
-            assert_eq!(rt; fits_sum(a, b), fits, "{a} {b}");
-        }
-    }
-
-    #[test]
-    fn products_fit_up_to_the_limit(rt: HostRuntime) {
-        let cases = [
-            (0, u128::MAX, u128::MAX, true),
-            (u32::MAX, u128::MAX, 0, true),
-            (4, 1 << 62, 1 << 62, true),
-            (4, 1 << 62, (1 << 62) + 1, false),
-            (1, 1 << 64, 1 << 64, false),
-            (2, u128::MAX, 1, false),
-        ];
-        for (n, a, b, fits) in cases {
-            assert_eq!(rt; fits_product(n, a, b), fits, "{n} {a} {b}");
-        }
-    }
-}

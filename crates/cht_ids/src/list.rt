@@ -91,23 +91,3 @@ impl<T> List<T> {
         &self.items
     }
 }
-
-#[cfg(test)]
-mod tests {
-    use super::*;
-    use std::test::Fail;
-
-    #[test]
-    fn items_stand_in_the_order_of_their_pushes(rt: HostRuntime) -> Result<(), Fail> {
-        let mut list = List::new(rt.alloc());
-        assert!(rt; list.is_empty());
-        assert_eq!(rt; list.push(7), Ok(()));
-        list.extend(&[8, 9])?;
-        assert_eq!(rt; list.len(), 3);
-        assert_eq!(rt; list.get(1).copied(), Some(8));
-        assert_eq!(rt; list.get(3).copied(), None);
-        let list = List::from_vec(list.into_vec());
-        assert_eq!(rt; list.as_slice(), [7, 8, 9].as_slice());
-        Ok(())
-    }
-}

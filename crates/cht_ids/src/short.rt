@@ -53,19 +53,3 @@ impl Short {
         &self.bytes[..self.len]
     }
 }
-
-#[cfg(test)]
-mod tests {
-    use super::*;
-
-    #[test]
-    fn a_text_keeps_up_to_64_bytes(rt: HostRuntime) {
-        let mut short = Short::of(b"");
-        assert_eq!(rt; short.as_bytes(), b"".as_slice());
-        short.append(b"add ");
-        short.append(b"16");
-        assert_eq!(rt; short.as_bytes(), b"add 16".as_slice());
-        let whole = [b'x'; 64];
-        assert_eq!(rt; Short::of(&whole).as_bytes(), whole.as_slice());
-    }
-}

@@ -31,21 +31,3 @@ impl From<AllocError> for Unpack {
         Unpack::Memory
     }
 }
-
-#[cfg(test)]
-mod tests {
-    use super::*;
-    use std::test::Fail;
-
-    #[test]
-    fn reasons_are_printed(rt: HostRuntime) -> Result<(), Fail> {
-        let cases = [
-            (Unpack::NotChunk, "no chunk has these bytes"),
-            (Unpack::from(Memory::from(AllocError)), "out of memory"),
-        ];
-        for (reason, text) in cases {
-            assert_eq!(rt; reason.to_string(rt.alloc())?.as_str(), text);
-        }
-        Ok(())
-    }
-}

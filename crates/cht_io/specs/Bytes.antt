@@ -9,6 +9,7 @@ pub record ReadsFront (left : List ℕ) (buffer : List ℕ) (n : ℕ) (after : O
   pub rest : after ≡ Some (drop n left)
   pub end : 0 < length buffer → n ≡ 0 → left ≡ []
 
+-- the same of a source that may not tell its bytes: one that does not tell them goes on so
 abbrev pub Reads : Option (List ℕ) → List ℕ → ℕ → Option (List ℕ) → Type 0
 Reads None buffer n after = after ≡ None
 Reads (Some left) buffer n after = ReadsFront left buffer n after

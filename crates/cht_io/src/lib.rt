@@ -6,8 +6,6 @@ mod faults;
 mod lists;
 mod pieces;
 mod std_edge;
-#[cfg(test)]
-mod tests;
 mod troubled;
 
 pub use device::{Failed, Sink, Source};

@@ -18,6 +18,3 @@ mod tree;
 pub use command::cht;
 pub use plain::plain_call;
 pub use status::{Fault, Status};
-
-#[cfg(test)]
-mod tests;

@@ -11,8 +11,6 @@ mod reader;
 mod script;
 mod shape;
 mod statement;
-#[cfg(test)]
-mod tests;
 mod words;
 
 use cht_ids::Memory;

@@ -7,9 +7,6 @@ ghost use Rattle.std.specs.Borrow.{sem};
 ghost use Rattle.std.specs.FinMap as map;
 ghost use Rattle.chunk_store.specs.Contents.{value_at, count_of};
 
-#[cfg(test)]
-mod tests;
-
 use cht_ids::Memory;
 use slab::Slab;
 use std::alloc::Global;

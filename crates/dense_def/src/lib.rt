@@ -7,6 +7,3 @@ mod dense;
 pub mod laws;
 
 pub use dense::Dense;
-
-#[cfg(test)]
-mod tests;

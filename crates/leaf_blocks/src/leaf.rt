@@ -155,6 +155,7 @@ impl Leaf {
             ≡ sum_below (height self.now) (λ k. entry self.now i k *ℤ entry other.now j k))) }
         ensures side { IfOk result (IsBlock (height self.now)) }
     {
+        // For the prover alone: it brings in that both blocks have their entries.
         prove_eq!(self.side(), other.side());
         self.mul(&other.transpose()?)
     }

@@ -5,6 +5,3 @@ mod kernels;
 mod leaf;
 
 pub use leaf::Leaf;
-
-#[cfg(test)]
-mod tests;

@@ -9,18 +9,12 @@ mod cursor;
 mod entries;
 mod head;
 mod lines;
-#[cfg(test)]
-mod lines_tests;
 mod market;
 mod numbers;
 mod places;
 mod reading;
-#[cfg(test)]
-mod reading_tests;
 mod sizes;
 mod writing;
-#[cfg(test)]
-mod writing_tests;
 
 pub use lines::{is_text, next_line, next_word};
 pub use market::{Cell, Entry, Form, Market, MarketFault, MarketRead, MarketRefused};

@@ -3,7 +3,7 @@ use Rattle.std.proofs.lemmas.Nat.{mul-le}
 use Rattle.dense_def.specs.Matrix.{Matrix, height, peak_of, SumFits, ProductFits, TmulFits, MultFits}
 use Rattle.dense_def.proofs.Peaks.{sum_fits, product_fits, tmul_fits, mult_fits, trace_fits}
 use Rattle.leaf_blocks.specs.Block.{IsBlock}
-use Rattle.leaf_blocks.proofs.tests.textbook_values.Goals as goal
+use Rattle.call_tests.proofs.blocks.textbook_values.Goals as goal
 
 -- terms fit in blocks of side 2 with peaks of at most 3 and 4
 module _ (a b : Matrix) (first : IsBlock 2 a) (second : IsBlock 2 b) (low : peak_of a ≤ 3) (high : peak_of b ≤ 4) where
