@@ -19,6 +19,3 @@ pub use library::Library;
 pub use outcome::{NewChunk, NewTask, Outcome, Place, Places};
 pub use payload::Payload;
 pub use shared::Shared;
-
-#[cfg(test)]
-mod tests;
