@@ -20,7 +20,7 @@ use Rattle.chunk_refs.proofs.Bodies.{shown-bodies_of}
 use Rattle.chunk_refs.proofs.Counts.{names-put, names-le-length, no_more_keys}
 use Rattle.chunk_refs.proofs.Ids.{get-ids_of}
 use Rattle.chunk_refs.proofs.Ending.{no-chain, positive, not_on_none}
-use Rattle.chunk_refs.proofs.Within.{live-number, owned-same}
+use Rattle.name_states.proofs.Within.{live-number, owned-same}
 use Rattle.chunk_refs.proofs.Linked.{put, put-names, added, added-names}
 
 none_behind : {A B : Type 0} (f : A → B) (found : Option A) → option_map f found ≡ None → found ≡ None

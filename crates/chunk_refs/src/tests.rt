@@ -44,7 +44,7 @@ fn is_live(refs: &Refs<Shape>, r: Ref) -> bool
 }
 
 // Whether a content has as many children as these, each null or live.
-#[tactic(auto, using(crate::proofs::Within::drawn_few))]
+#[tactic(auto, using(name_states::proofs::Within::drawn_few))]
 fn may_have(refs: &Refs<Shape>, content: Shape, children: &[Ref]) -> bool
     ensures live { IsTrue result → AreLive refs.now.names children.now }
     ensures arity { IsTrue result → length children.now ≡ ⟦<Shape as Payload>⟧.arity content }

@@ -8,7 +8,7 @@ use Rattle.name_states.specs.States.{NameState, IdRecord, id_at, AreLive}
 use Rattle.name_states.specs.Steps.{with_naming, copied, linked_ref, linked, drawn_by, present, numbered}
 use Rattle.name_states.specs.Rules.{AreWithin}
 use Rattle.name_states.proofs.Basics.{same_some, inserted_from, inserted_here}
-use Rattle.chunk_refs.proofs.Within.{within-linked_ref, linked_ref-keeps, live-number, within-more}
+use Rattle.name_states.proofs.Within.{within-linked_ref, linked_ref-keeps, live-number, within-more}
 
 module _ {C : Type 0} where
   -- what copies name: the same as the children, held by the new body
@@ -75,7 +75,7 @@ module _ {C : Type 0} where
       (source : IdRecord) × (from : ℕ) × (j : ℕ) × (id_at before from ≡ Some source) × (naming ≡ record source { holder = holder })
       × (slice_get own j ≡ Some (Held (record { owner = source.owner; number = number })))
 
-  copied-from : (names : NameState C) (number : ℕ) (holder : Holder) (found : Option IdRecord) (q : ℕ) (naming : IdRecord) → id_at (with_naming names number holder found) q ≡ Some naming
+  pub copied-from : (names : NameState C) (number : ℕ) (holder : Holder) (found : Option IdRecord) (q : ℕ) (naming : IdRecord) → id_at (with_naming names number holder found) q ≡ Some naming
       → (id_at names q ≡ Some naming) ⊎ ((source : IdRecord) × (found ≡ Some source) × (naming ≡ record source { holder = holder }) × (q ≡ number))
   copied-from names number holder None q naming is = inl is
   copied-from names number holder (Some source) q naming is =
