@@ -23,7 +23,7 @@ use Rattle.chunk_refs.specs.Others.{AreAllAsBefore, AreRestAsBefore, AreOthersLi
 use Rattle.chunk_refs.specs.Inside.{names_of, shown_id, shown_chunk, refs_of, all_four, chunk_at, HasChain}
 use Rattle.name_states.proofs.Basics.{same_some, none_not_some, some_value, test_apart, removed_from, removed_here, removed_other}
 use Rattle.chunk_refs.proofs.Bodies.{shown-bodies_of}
-use Rattle.name_states.proofs.Copies.{copied-here, bodies-with_naming}
+use Rattle.name_states.proofs.Copies.{copied-here, bodies-with_copy}
 use Rattle.chunk_refs.proofs.Grown.{others-kept}
 use Rattle.chunk_refs.proofs.Ids.{get-ids_of}
 use Rattle.chunk_refs.proofs.Linked.{named-chunk}
@@ -128,7 +128,7 @@ module _ {C : Type 0} where
   pub more-copied : (names : NameState C) (from number : ℕ) (holder : Holder) → id_at names number ≡ None → AreMore names (copied names from number holder)
   more-copied names from number holder free = record {
     ids = copied-keeps names from number holder free;
-    bodies = λ q body is. ap (λ b. map.get b q) (bodies-with_naming names number holder (id_at names from)) ∙ is;
+    bodies = λ q body is. ap (λ b. map.get b q) (bodies-with_copy names number holder (id_at names from)) ∙ is;
   }
 
   pub copy-named : (names : NameState C) (id : Id) (number : ℕ) (holder : Holder) → IsLive names id

@@ -233,7 +233,7 @@ impl<C: Payload> Refs<C> {
         ensures reached { AreReached self.now.names }
 
         // Where callers and tasks hold nothing, there is nothing.
-        ensures empty { ((number : ℕ) (naming : IdRecord) → id_at self.now.names number ≡ Some naming → IsOutside naming.holder → ⊥)
+        ensures empty { ((number : ℕ) (entry : IdRecord) → id_at self.now.names number ≡ Some entry → IsOutside entry.holder → ⊥)
             → self.now.names ≡ no_names }
 
         // And there is nothing exactly where no identifier is live.

@@ -10,7 +10,7 @@ use Rattle.cht_ids.specs.declared.refs.Ref.TheVariants.{Null, Id as Held}
 use Rattle.name_states.specs.declared.holder.Holder.{Holder}
 use Rattle.name_states.specs.declared.holder.Holder.TheVariants.{Body}
 use Rattle.name_states.specs.States.{NameState, IdRecord, BodyRecord, id_at, body_at, AreLive, no_names}
-use Rattle.name_states.specs.Steps.{with_id, with_naming, copied, registered, numbered, present, without_id, IsOutside}
+use Rattle.name_states.specs.Steps.{with_id, with_copy, copied, registered, numbered, present, without_id, IsOutside}
 use Rattle.name_states.specs.Reached.{IsReached, Outside, Inside}
 use Rattle.name_states.specs.Rules.{IsSound, AreWithin, AreReached, LeadsToBody}
 use Rattle.name_states.proofs.Basics.{same_some, none_not_some, same_options, inserted_from, inserted_here, inserted_other, removed_from, removed_other}
@@ -189,7 +189,7 @@ module _ {C : Type 0} where
   pub sound-copied : (arity : C → ℕ) (names : NameState C) (from number : ℕ) (holder : Holder) (source : IdRecord) → IsSound arity names → IsOutside holder → id_at names from ≡ Some source → id_at names number ≡ None
       → IsSound arity (copied names from number holder)
   sound-copied arity names from number holder source sound outside is free =
-      subst (λ found. IsSound arity (with_naming names number holder found)) (sym is) (sound-named arity names from number holder source sound outside is free)
+      subst (λ found. IsSound arity (with_copy names number holder found)) (sym is) (sound-named arity names from number holder source sound outside is free)
 
   -- one identifier less, that a caller or a task held
   pub sound-without : (arity : C → ℕ) (names : NameState C) (number : ℕ) (gone : IdRecord) → IsSound arity names → id_at names number ≡ Some gone → IsOutside gone.holder → IsSound arity (without_id names number)

@@ -7,7 +7,7 @@ use Rattle.cht_ids.specs.declared.refs.Ref.{Ref}
 use Rattle.cht_ids.specs.declared.refs.Ref.TheVariants.{Null, Id as Held}
 use Rattle.name_states.specs.declared.holder.Holder.{Holder}
 use Rattle.name_states.specs.States.{NameState, IdRecord, BodyRecord, id_at, body_at, record_of, owned_by, IsLive, IsLiveRef, AreLive}
-use Rattle.name_states.specs.Steps.{with_id, with_body, with_naming, copied, linked_ref, drawn_by}
+use Rattle.name_states.specs.Steps.{with_id, with_body, with_copy, copied, linked_ref, drawn_by}
 use Rattle.name_states.specs.Rules.{AreWithin}
 use Rattle.name_states.proofs.Basics.{none_not_some, some_value, same_some, same_from_test, test_same, inserted_from, inserted_other}
 
@@ -57,7 +57,7 @@ module _ {C : Type 0} where
   pub within-body : (names : NameState C) (number : ℕ) (body : BodyRecord C) (bound : ℕ) → AreWithin names bound → number ≤ bound → AreWithin (with_body names number body) bound
   within-body names number body bound within low = record { ids = within.ids; bodies = inserted-within names.bodies number body bound within.bodies low }
 
-  within-naming : (names : NameState C) (number : ℕ) (holder : Holder) (found : Option IdRecord) (bound : ℕ) → AreWithin names bound → number ≤ bound → AreWithin (with_naming names number holder found) bound
+  within-naming : (names : NameState C) (number : ℕ) (holder : Holder) (found : Option IdRecord) (bound : ℕ) → AreWithin names bound → number ≤ bound → AreWithin (with_copy names number holder found) bound
   within-naming names number holder None bound within low = within
   within-naming names number holder (Some naming) bound within low = within-id names number (record naming { holder = holder }) bound within low
 
@@ -85,7 +85,7 @@ module _ {C : Type 0} where
   all-live-kept names more (r ∷ refs) kept live = (live-kept names more r kept live.0, all-live-kept names more refs kept live.1)
 
   kept-naming : (names : NameState C) (number : ℕ) (holder : Holder) (found : Option IdRecord) → id_at names number ≡ None
-      → (q : ℕ) (naming : IdRecord) → id_at names q ≡ Some naming → id_at (with_naming names number holder found) q ≡ Some naming
+      → (q : ℕ) (naming : IdRecord) → id_at names q ≡ Some naming → id_at (with_copy names number holder found) q ≡ Some naming
   kept-naming names number holder None free q naming is = is
   kept-naming names number holder (Some from) free q naming is = naming-kept names number (record from { holder = holder }) q naming free is
 

@@ -9,7 +9,7 @@ use Rattle.cht_ids.specs.declared.refs.Ref.TheVariants.{Null, Id as Held}
 use Rattle.name_states.specs.declared.holder.Holder.{Holder}
 use Rattle.name_states.specs.declared.holder.Holder.TheVariants.{Body}
 use Rattle.name_states.specs.States.{NameState, IdRecord, BodyRecord, id_at, body_at}
-use Rattle.name_states.specs.Steps.{registered, copied, linked, linked_ref, with_id, with_body, with_naming, drawn_by, numbered}
+use Rattle.name_states.specs.Steps.{registered, copied, linked, linked_ref, with_id, with_body, with_copy, drawn_by, numbered}
 use Rattle.name_states.specs.Reached.{swept, is_reached, is_reached_within, greatest_body, is_kept, keeps_up, leads_up}
 use Rattle.name_states.specs.Rules.{IsSound}
 use Rattle.name_states.specs.WithoutContents.{without_content, without_contents}
@@ -19,7 +19,7 @@ use Rattle.name_states.proofs.Values.{each_value_inserted, each_value_retained, 
 
 module _ {C : Type 0} (arity : C → ℕ) where
   found_copied : (names : NameState C) (number : ℕ) (holder : Holder) (found : Option IdRecord)
-      → without_contents arity (with_naming names number holder found) ≡ with_naming (without_contents arity names) number holder found
+      → without_contents arity (with_copy names number holder found) ≡ with_copy (without_contents arity names) number holder found
   found_copied names number holder None = refl
   found_copied names number holder (Some entry) = refl
 
