@@ -1,10 +1,10 @@
 -- The laws of states of names, as statements. The functions of `laws` carry each as their contract.
-use Rattle.std.specs.Prelude.{◌≡◌, ℕ, ◌+◌, List, length, None, Some, IsSome}
+use Rattle.std.specs.Prelude.{◌≡◌, ◌↔◌, ℕ, ◌+◌, List, length, None, Some, IsSome}
 use Rattle.cht_ids.specs.declared.refs.Ref.{Ref}
 use Rattle.name_states.specs.declared.holder.Holder.{Holder}
 use Rattle.name_states.specs.States.{NameState, IdRecord, id_at, AreLive, no_names}
 use Rattle.name_states.specs.Steps.{registered, copied, without_id, present, IsOutside}
-use Rattle.name_states.specs.Reached.{swept}
+use Rattle.name_states.specs.Reached.{IsReached, swept}
 use Rattle.name_states.specs.Rules.{IsSound, AreReached, AreWithin}
 use Rattle.name_states.specs.WithoutContents.{without_contents}
 
@@ -41,6 +41,11 @@ module _ (C : Type 0) where
   abbrev pub RulesWithout : Type 0
   RulesWithout =
       (arity : C → ℕ) (names : NameState C) → IsSound arity names → IsSound itself (without_contents arity names)
+
+  -- the same bodies are reached without contents
+  abbrev pub ReachedWithout : Type 0
+  ReachedWithout =
+      (arity : C → ℕ) (names : NameState C) (body : ℕ) → IsReached names body ↔ IsReached (without_contents arity names) body
 
   -- no names keep the rules
   abbrev pub NoNamesKeep : Type 0
