@@ -1,20 +1,24 @@
-//! Tests of the public calls of the crates below: each once on its happy path, with memory enough, each generic one at a concrete
-//! type, and what devices that fail leave. Scripts whose text goes in and out stand in examples/rows.
+//! Tests of the public calls of the crates below, one file for each: each call once on its happy path, with memory enough, each
+//! generic one at a concrete type, and what devices that fail leave. Scripts whose text goes in and out stand in examples/rows.
 #![tactic(auto)]
 
 #[cfg(test)]
-mod blocks;
+mod dense_calls;
 #[cfg(test)]
-mod dense;
+mod id_calls;
 #[cfg(test)]
-mod devices;
+mod io_calls;
 #[cfg(test)]
-mod keys;
+mod leaf_block_calls;
 #[cfg(test)]
-mod markets;
+mod market_calls;
 #[cfg(test)]
-mod runs;
+mod name_state_calls;
 #[cfg(test)]
-mod scripts;
+mod run_calls;
 #[cfg(test)]
-mod words;
+mod script_calls;
+#[cfg(test)]
+mod store_calls;
+#[cfg(test)]
+mod task_type_calls;

@@ -1,6 +1,6 @@
 -- What the trees of a library stand for, and what its kinds ask.
-use Rattle.std.specs.Prelude.{ℕ, List, [], ◌∷◌}
-use Rattle.task_types.specs.Tree.{Tree, Nothing, Root}
+use Rattle.std.specs.Prelude.{ℕ, List}
+use Rattle.task_types.specs.Tree.{Tree, tree_value}
 use Rattle.task_types.specs.Presence.{Presence}
 use Rattle.task_types.specs.Places.{Shape}
 
@@ -21,8 +21,6 @@ pub record Meanings (C K : Type 0) : Type 1 where
   -- the work of a kind on trees
   pub work : K → List (Tree C) → ℕ
 
--- what a tree stands for
+-- what a tree stands for in a library
 abbrev pub value_of : {C K : Type 0} (lib : Meanings C K) → Tree C → lib.Value
-value_of lib Nothing = lib.nothing
-value_of lib (Root content a b c d) =
-    lib.stands content (value_of lib a ∷ value_of lib b ∷ value_of lib c ∷ value_of lib d ∷ [])
+value_of lib tree = tree_value lib.nothing lib.stands tree

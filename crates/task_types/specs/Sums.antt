@@ -1,5 +1,5 @@
 -- The small library of sums.
-use Rattle.std.specs.Prelude.{◌≡◌, ℕ, zero, suc, ◌+◌, ◌-◌, ◌<◌, ◌^◌, Bool, true, false, ◌==◌, if◌then◌else◌, List, [], ◌∷◌, ◌++◌, sum, codes}
+use Rattle.std.specs.Prelude.{◌≡◌, ◌≢◌, ℕ, zero, suc, ◌+◌, ◌-◌, ◌<◌, ◌^◌, Bool, true, false, ◌==◌, if◌then◌else◌, List, [], ◌∷◌, ◌++◌, sum, codes}
 use Rattle.task_types.specs.declared.outcome.Place.{Place}
 use Rattle.task_types.specs.declared.outcome.Place.TheVariants.{Null, Input, Child, Chunk, Task}
 use Rattle.task_types.specs.declared.outcome.NewTask.{NewTask}
@@ -11,7 +11,7 @@ use Rattle.task_types.specs.declared.sums.Term.TheVariants.{Number, Sum}
 use Rattle.task_types.specs.declared.sums.Aim.{Aim}
 use Rattle.task_types.specs.declared.sums.Aim.TheVariants.{Total, Plus}
 use Rattle.task_types.specs.declared.sums.SumKind.{SumKind}
-use Rattle.task_types.specs.Tree.{Tree, Nothing, Root, tree_at, is_there}
+use Rattle.task_types.specs.Tree.{Tree, Nothing, Root, tree_at, is_there, tree_value}
 use Rattle.task_types.specs.Presence.{Presence, Absent, Present, has_child}
 use Rattle.task_types.specs.Shown.{mask_presence}
 use Rattle.task_types.specs.Places.{Shape, filled, shape_of}
@@ -21,6 +21,11 @@ use Rattle.task_types.specs.Meanings.{Meanings}
 abbrev pub arity_of : Term → ℕ
 arity_of (Number n) = 0
 arity_of Sum = 2
+
+-- which terms are sound: a number is not 0
+abbrev pub IsSoundTerm : Term → Type 0
+IsSoundTerm (Number n) = n ≢ 0
+IsSoundTerm Sum = Unit {0}
 
 -- the names of the kinds
 abbrev pub aim_name : Aim → List ℕ
@@ -40,9 +45,7 @@ term_value Sum (a ∷ b ∷ values) = a + b
 
 -- the total of a tree
 abbrev pub total : Tree Term → ℕ
-total Nothing = 0
-total (Root (Number n) a b c d) = n
-total (Root Sum a b c d) = total a + total b
+total tree = tree_value 0 term_value tree
 
 -- a tree with so many sums above each number
 abbrev pub HasHeight : ℕ → Tree Term → Type 0
@@ -125,10 +128,11 @@ other_input view.Nothing view.Nothing = Null
 other_input view.Nothing (view.There content present) = Input 1
 other_input (view.There content present) other = Input 0
 
--- the shape of an outcome without tasks: null, or one chunk without children
+-- the shape of an outcome that is null
 abbrev pub null_shape : Shape SumKind
 null_shape = shape_of (given Null)
 
+-- the shape of one chunk without children, which is the result
 abbrev pub number_shape : Shape SumKind
 number_shape = record { chunks = [] ∷ []; tasks = []; result = Chunk 0 }
 
@@ -162,6 +166,7 @@ total_work zero (Root content a b c d) = 1
 total_work (suc height) (Root content a b c d) =
     1 + sum (child_works (is_there a) (is_there b) (total_work height a) (total_work height b))
 
+-- the works of the kinds
 abbrev pub sum_work : Aim → ℕ → List (Tree Term) → ℕ
 sum_work Total height trees = total_work height (tree_at trees 0)
 sum_work Plus height trees = 1

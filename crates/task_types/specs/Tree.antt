@@ -27,6 +27,13 @@ children (Root content a b c d) = a ∷ b ∷ c ∷ d ∷ []
 abbrev pub child : {C : Type 0} → Tree C → ℕ → Tree C
 child tree j = tree_at (children tree) j
 
+-- what a tree stands for, from what nothing stands for, and what a content stands for, given what its four children
+-- stand for
+abbrev pub tree_value : {C V : Type 0} → V → (C → List V → V) → Tree C → V
+tree_value nothing stands Nothing = nothing
+tree_value nothing stands (Root content a b c d) =
+    stands content (tree_value nothing stands a ∷ tree_value nothing stands b ∷ tree_value nothing stands c ∷ tree_value nothing stands d ∷ [])
+
 -- a content over the first four of these trees
 abbrev pub rooted : {C : Type 0} → C → List (Tree C) → Tree C
 rooted content trees = Root content (tree_at trees 0) (tree_at trees 1) (tree_at trees 2) (tree_at trees 3)

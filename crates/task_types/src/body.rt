@@ -6,7 +6,7 @@ use cht_ids::Memory;
 use std::alloc::Global;
 use std::marker::Model;
 
-/// The registered content of one chunk, as a shared value. It is never changed.
+/// The registered content of one chunk, as a shared value. It is sound, and it is never changed.
 #[derive(Drop)]
 pub struct Body<C: Payload> {
     shared: Shared<C>,
@@ -16,11 +16,14 @@ impl<C: Payload> Model for Body<C> {
     ghost Value = { C };
 
     ghost view = { λ body. body.shared };
+
+    ghost invariant = { λ body. C.sound body.shared };
 }
 
 impl<C: Payload> Body<C> {
-    /// A body with this content.
+    /// A body with this content, which has to be sound.
     pub fn new(alloc: Global, content: C) -> Result<Body<C>, Memory>
+        requires { C.sound content }
         ensures { IfOk result (λ body. body ≡ content) }
     {
         Ok(Body {
@@ -28,16 +31,18 @@ impl<C: Payload> Body<C> {
         })
     }
 
-    /// The content.
+    /// The content. It is sound.
     pub fn content(&self) -> &C
-        ensures { result.now ≡ self.now }
+        ensures whole { result.now ≡ self.now }
+        ensures sound { C.sound self.now }
     {
         self.shared.get()
     }
 
-    /// The content as the value that is shared.
+    /// The content as the value that is shared. It is sound.
     pub fn shared(&self) -> &Shared<C>
-        ensures { result.now ≡ self.now }
+        ensures whole { result.now ≡ self.now }
+        ensures sound { C.sound self.now }
     {
         &self.shared
     }

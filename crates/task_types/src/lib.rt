@@ -6,6 +6,7 @@ mod body;
 mod formed;
 mod inputs;
 mod kinds;
+pub mod laws;
 mod library;
 mod outcome;
 mod payload;
@@ -19,6 +20,3 @@ pub use library::Library;
 pub use outcome::{NewChunk, NewTask, Outcome, Place, Places};
 pub use payload::Payload;
 pub use shared::Shared;
-
-#[cfg(test)]
-mod tests;

@@ -1,7 +1,7 @@
 //! A small library, which shows how the trait is met and serves the tests of the layers above: trees of numbers, and
 //! tasks that add them up.
 ghost use Rattle.std.specs.Prelude.{◌≡◌, ◌≤◌, length, IfOk, OnOk};
-ghost use Rattle.task_types.specs.Sums.{aim_name, arity_of, sum_meanings, given, number_outcome, halves_outcome, asking, total_answer, number_in, other_input};
+ghost use Rattle.task_types.specs.Sums.{aim_name, arity_of, IsSoundTerm, sum_meanings, given, number_outcome, halves_outcome, asking, total_answer, number_in, other_input};
 
 use crate::body::Body;
 use crate::inputs::{Inputs, View};
@@ -23,6 +23,8 @@ pub enum Term {
 
 impl Payload for Term {
     ghost arity = { arity_of };
+
+    ghost sound = { IsSoundTerm };
 
     ghost use Rattle.task_types.specs.SumLaws.{few_children_of};
 
