@@ -1,5 +1,5 @@
 -- Blocks as lists of entries. Rows and columns count from 0.
-use Rattle.std.specs.Prelude.{◌≡◌, ℕ, ◌*◌, ◌^◌, ◌<◌, ◌≤◌, max, Bool, true, ◌&&◌, ◌||◌, ◌==◌, nat_lt, IsTrue, List, [], ◌∷◌, length, All, ℤ, pos, unsigned_abs}
+use Rattle.std.specs.Prelude.{◌≡◌, ℕ, ◌*◌, ◌^◌, ◌<◌, ◌≤◌, max, Bool, true, ◌&&◌, ◌||◌, ◌==◌, nat_lt, IsTrue, List, [], ◌∷◌, length, All, ℤ, pos, ◌<ℤ◌, unsigned_abs}
 use Rattle.chunk_codec.specs.declared.plain.Spot.{Spot}
 
 -- the side of a block whose leaves have side b, and which has h levels above them
@@ -16,12 +16,13 @@ spots_rise [] = true
 spots_rise (spot ∷ []) = true
 spots_rise (spot ∷ next ∷ spots) = stands_before spot next && spots_rise (next ∷ spots)
 
--- an entry of a block of this side, with a value of 64 bits other than 0
+-- an entry of a block of this side, with a value other than 0 from -2 ^ 63 to 2 ^ 63 - 1
 pub record IsSpot (side : ℕ) (spot : Spot) : Type 0 where
   pub row : spot.row < side
   pub column : spot.column < side
   pub value : spot.value ≡ pos 0 → ⊥
   pub small : unsigned_abs spot.value ≤ 2 ^ 63
+  pub below : spot.value <ℤ pos (2 ^ 63)
 
 -- the entry lies on the diagonal or above it
 abbrev pub IsUpper : Spot → Type 0
