@@ -5,3 +5,4 @@ pub mod Simple
 pub mod Steps
 pub mod Shapes
 pub mod SoundPlans
+pub mod DraftWorks

@@ -8,10 +8,11 @@ use Rattle.dense_def.specs.Matrix.{row_by_row}
 use Rattle.dense_def.proofs.Entries.{made_ext}
 use Rattle.leaf_blocks.specs.Block.{place, EachPlace, IsSmall}
 use Rattle.leaf_blocks.proofs.Squares.{all_by_place}
-use Rattle.quad_matrix.specs.declared.chunk.Spot.{Spot}
-use Rattle.quad_matrix.specs.Spots.{is_at, spot_value, spots_rise, block_of_spots, IsSpot}
+use Rattle.chunk_codec.specs.declared.plain.Spot.{Spot}
+use Rattle.chunk_codec.specs.Spots.{spots_rise, IsSpot}
+use Rattle.quad_matrix.specs.Spots.{is_at, spot_value, block_of_spots}
 use Rattle.quad_matrix.proofs.Lists.{spot_value_small}
-use Rattle.matrix_tasks.proofs.Order.{Before, before_cases, pairs_from_rise}
+use Rattle.quad_matrix.proofs.Order.{Before, before_cases, pairs_from_rise}
 
 -- each place has the value that the entries give it
 pub record SpotsWritten (numbers : List ℤ) (side : ℕ) (spots : List Spot) : Type 0 where

@@ -1,30 +1,89 @@
 // Lists of entries as blocks: the parts of a list by quadrant, and the leaf block of a list.
-ghost use Rattle.std.specs.Prelude.{◌≡◌, ◌-◌, ◌*◌, ◌^◌, ◌<◌, ◌≤◌, [], ◌∷◌, ◌++◌, IfOk, OnOk};
-ghost use Rattle.quad_matrix.specs.Spots.{AreSoundEntries, side_of, block_of_spots};
-ghost use Rattle.matrix_tasks.specs.Quarters.{quarters_of, followed, list_in, without};
+ghost use Rattle.std.specs.Prelude.{◌≡◌, ◌-◌, ◌*◌, ◌^◌, ◌<◌, ◌≤◌, false, [], ◌∷◌, ◌++◌, IfOk, OnOk};
+ghost use Rattle.chunk_codec.specs.Spots.{side_of};
+ghost use Rattle.quad_matrix.specs.Spots.{AreSoundEntries, block_of_spots};
+ghost use Rattle.quad_matrix.specs.Quarters.{quarters_of, followed};
+ghost use Rattle.quad_matrix.specs.Portions.{listed, is_mirrored, takes_mirrored, portions_of};
 
+use crate::chunk::{Entries, MatChunk};
+use crate::kind::What;
+use chunk_codec::Spot;
 use cht_ids::{List, Memory};
 use leaf_blocks::Leaf;
-use quad_matrix::{Entries, Spot};
 use std::alloc::Global;
-use std::mem;
+use task_plans::{Part, Portions};
 
 // The entries of the four quadrants of a block. Rows and columns of each list count from 0 at the corner of its quadrant.
 #[derive(Drop)]
-pub(crate) struct Quarters {
+struct Quarters {
     // Quadrant 0.
-    pub(crate) upper_left: List<Spot>,
+    upper_left: List<Spot>,
     // Quadrant 1.
-    pub(crate) upper_right: List<Spot>,
+    upper_right: List<Spot>,
     // Quadrant 2.
-    pub(crate) lower_left: List<Spot>,
+    lower_left: List<Spot>,
     // Quadrant 3.
-    pub(crate) lower_right: List<Spot>,
+    lower_right: List<Spot>,
+}
+
+/// The portions of a list of entries that some parts of a plan take: for each quadrant its entries, relative to its corner, as the
+/// list of a block one level below. For want of memory no list is left.
+pub fn portions(
+    alloc: Global,
+    entries: &Entries,
+    parts: &[Part<What>],
+) -> Result<Portions<MatChunk>, Memory>
+    requires leaf { entries.now.leaf ≤ 64 }
+    requires low { 1 ≤ entries.now.height }
+    requires high { entries.now.height ≤ 16 }
+    ensures { IfOk result (λ portions. portions ≡ portions_of entries.now parts.now) }
+{
+    let (leaf, height) = (entries.leaf, entries.height - 1);
+    let quarters = split(alloc, entries)?;
+    Ok(Portions {
+        first: listed(leaf, height, is_mirrored(parts, 0), quarters.upper_left),
+        second: listed(leaf, height, is_mirrored(parts, 1), quarters.upper_right),
+        third: listed(leaf, height, is_mirrored(parts, 2), quarters.lower_left),
+        fourth: listed(leaf, height, is_mirrored(parts, 3), quarters.lower_right),
+    })
+}
+
+// A list of entries as a content, if it has one.
+fn listed(leaf: u32, height: u32, symmetric: bool, list: List<Spot>) -> Option<MatChunk>
+    ensures { result ≡ listed leaf height symmetric list }
+{
+    if list.is_empty() {
+        return None;
+    }
+    Some(MatChunk::Entries(Entries {
+        leaf,
+        height,
+        symmetric,
+        list,
+    }))
+}
+
+// Whether some part takes a portion as the upper triangle of a symmetric block.
+fn is_mirrored(parts: &[Part<What>], quadrant: u8) -> bool
+    ensures { result ≡ is_mirrored parts.now quadrant }
+{
+    parts.iter().any(|part| takes_mirrored(part, quadrant))
+}
+
+fn takes_mirrored(part: &Part<What>, quadrant: u8) -> bool
+    ensures { result ≡ takes_mirrored quadrant part.now }
+{
+    match part {
+        Part::Portion {
+            number, symmetric, ..
+        } => *number == quadrant && *symmetric,
+        Part::Itself { .. } | Part::Alone(_) | Part::Either { .. } | Part::Pair { .. } => false,
+    }
 }
 
 // The entries of a block by quadrant, each list in the order of the whole. It takes one pass, and the lists grow as they fill.
 // For want of memory no list is left.
-pub(crate) fn split(alloc: Global, entries: &Entries) -> Result<Quarters, Memory>
+fn split(alloc: Global, entries: &Entries) -> Result<Quarters, Memory>
     requires leaf { entries.now.leaf ≤ 64 }
     requires low { 1 ≤ entries.now.height }
     requires high { entries.now.height ≤ 16 }
@@ -39,9 +98,9 @@ pub(crate) fn split(alloc: Global, entries: &Entries) -> Result<Quarters, Memory
     Ok(quarters)
 }
 
-// The leaf block of some entries: their values at their places, and 0 elsewhere.
-pub(crate) fn leaf_block(alloc: Global, entries: &Entries) -> Result<Leaf, Memory>
-    requires { AreSoundEntries entries.now.leaf 0 entries.now }
+/// The leaf block of a list of entries: their values at their places, and 0 elsewhere.
+pub fn leaf_block(alloc: Global, entries: &Entries) -> Result<Leaf, Memory>
+    requires { AreSoundEntries entries.now.leaf 0 false entries.now }
     ensures { IfOk result (λ block. block ≡ block_of_spots entries.now.leaf entries.now.list) }
 {
     let side = entries.leaf as usize;
@@ -63,7 +122,7 @@ fn side(leaf: u32, height: u32) -> u32
 
 impl Quarters {
     // No entries.
-    pub(crate) fn new(alloc: Global) -> Quarters
+    fn new(alloc: Global) -> Quarters
         ensures { result ≡ quarters_of 0 [] }
     {
         Quarters {
@@ -85,21 +144,6 @@ impl Quarters {
             (true, true) => add(&mut self.lower_right, spot, half, half),
         }
     }
-
-    // Takes the list of a quadrant: 0 upper left, 1 upper right, 2 lower left, 3 lower right. None are left in it.
-    pub(crate) fn take(&mut self, alloc: Global, quadrant: u8) -> List<Spot>
-        ensures list { result ≡ list_in self.old quadrant }
-        ensures rest { self.new ≡ without self.old quadrant }
-    {
-        let none = List::new(alloc);
-        match quadrant {
-            0 => mem::replace(&mut self.upper_left, none),
-            1 => mem::replace(&mut self.upper_right, none),
-            2 => mem::replace(&mut self.lower_left, none),
-            3 => mem::replace(&mut self.lower_right, none),
-            _ => none,
-        }
-    }
 }
 
 // Adds an entry at the end of a list, relative to the corner of a quadrant.
@@ -114,8 +158,5 @@ fn add(list: &mut List<Spot>, spot: Spot, top: u32, left: u32) -> Result<(), Mem
         column: spot.column - left,
         value: spot.value,
     };
-    match list.push(moved) {
-        Ok(()) => Ok(()),
-        Err(_) => Err(Memory),
-    }
+    list.push(moved).map_err(|_| Memory)
 }

@@ -4,9 +4,10 @@ use Rattle.std.specs.List.{All, AllPairs, filter}
 use Rattle.std.proofs.lemmas.Bool.{ltb-true, eqb-true, eq-eqb, and_parts, and_from, or_cases, or_left, or_right}
 use Rattle.std.proofs.lemmas.List.Elements.{All-nil, All-cons, All-head, All-weaker, All-map, filter_passes}
 use Rattle.std.proofs.lemmas.List.Kept.{AllPairs-cons, AllPairs-filter}
-use Rattle.quad_matrix.specs.declared.chunk.Spot.{Spot}
-use Rattle.quad_matrix.specs.Spots.{stands_before, spots_rise, quadrant_of, relative, moved, part_of}
-use Rattle.matrix_tasks.proofs.Sides.{sides_of_quadrant, relative_below}
+use Rattle.chunk_codec.specs.declared.plain.Spot.{Spot}
+use Rattle.chunk_codec.specs.Spots.{stands_before, spots_rise}
+use Rattle.quad_matrix.specs.Spots.{quadrant_of, relative, moved, part_of}
+use Rattle.quad_matrix.proofs.QuadrantSides.{sides_of_quadrant, relative_below}
 
 -- one entry stands before another
 abbrev pub Before : Spot → Spot → Type 0

@@ -2,19 +2,21 @@
 use Rattle.std.proofs.Common.{◌≡◌, ℕ, suc, ◌+◌, ◌-◌, ◌<◌, ◌≤◌, Bool, true, false, ◌&&◌, ◌==◌, nat_le, cond, ℤ, List, [], ◌∷◌, ◌++◌, length, get_or, take, map, refl, sym, ap, ap₂, ◌∙◌, arith, zero-add}
 use mathlib.Core.Bool.{beq}
 use Rattle.std.specs.List.{filter}
+use Rattle.std.proofs.lemmas.Bool.{cond_both, false≢true}
 use Rattle.std.proofs.lemmas.List.{map-append}
 use Rattle.std.proofs.lemmas.List.Elements.{All-weaker, All-map, All-filter, filter_more}
 use Rattle.dense_def.specs.Matrix.{entry, block}
 use Rattle.dense_def.proofs.Entries.{made_ext}
-use Rattle.quad_matrix.specs.declared.chunk.Spot.{Spot}
+use Rattle.chunk_codec.specs.declared.plain.Spot.{Spot}
 use Rattle.quad_matrix.specs.declared.chunk.Entries.{Entries}
-use Rattle.quad_matrix.specs.Spots.{side_of, is_at, spot_value, block_of_spots, IsSpot, AreSoundEntries, quadrant_of, moved, part_of}
+use Rattle.chunk_codec.specs.Spots.{side_of, IsSpot, AreSoundSpots}
+use Rattle.quad_matrix.specs.Spots.{is_at, spot_value, block_of_spots, AreSoundEntries, quadrant_of, moved, part_of}
 use Rattle.quad_matrix.specs.Blocks.{upper_left, upper_right, lower_left, lower_right}
 use Rattle.quad_matrix.proofs.Sides.{side_twice}
 use Rattle.quad_matrix.proofs.Lists.{entry-spots}
-use Rattle.matrix_tasks.specs.Quarters.{quarters_of, followed, portion_of}
-use Rattle.matrix_tasks.proofs.Sides.{quadrant_at, shifted, shifted_is, relative_inside}
-use Rattle.matrix_tasks.proofs.Order.{part_rises}
+use Rattle.quad_matrix.specs.Quarters.{quarters_of, followed}
+use Rattle.quad_matrix.proofs.QuadrantSides.{quadrant_at, shifted, shifted_is, relative_inside}
+use Rattle.quad_matrix.proofs.Order.{part_rises}
 
 -- ---- A part, entry by entry
 
@@ -98,27 +100,34 @@ moved_spot half side spot twice is = record {
   column = relative_inside half spot.column (omega (arith, is.column));
   value = is.value;
   small = is.small;
+  below = is.below;
 }
 
--- a part of sound entries that is not empty is sound
-pub part_is_sound : (b h q : ℕ) (e : Entries) → AreSoundEntries b (suc h) e → 1 ≤ length (part_of (side_of b h) q e.list) → AreSoundEntries b h (portion_of e (part_of (side_of b h) q e.list))
-part_is_sound b h q e sound some =
+-- a part has at most as many entries
+part_is_short : (half q : ℕ) (spots : List Spot) → length (part_of half q spots) ≤ length spots
+part_is_short half q [] = omega arith
+part_is_short half q (spot ∷ spots) =
+    cond_both (quadrant_of half spot == q) (spot ∷ filter (λ (spot : Spot). quadrant_of half spot == q) spots) (filter (λ (spot : Spot). quadrant_of half spot == q) spots) (λ (kept : List Spot). length (map (moved half) kept) ≤ length (spot ∷ spots))
+    (λ e. omega (arith, part_is_short half q spots)) (λ e. omega (arith, part_is_short half q spots))
+
+-- a part of sound entries of a general block that is not empty is sound
+pub part_is_sound : (b h q : ℕ) (mirrored : Bool) (spots : List Spot) → AreSoundSpots b (suc h) mirrored spots → 1 ≤ length (part_of (side_of b h) q spots) → AreSoundSpots b h false (part_of (side_of b h) q spots)
+part_is_sound b h q mirrored spots sound some =
     let half = side_of b h in
     let lies = λ (spot : Spot). quadrant_of half spot == q in
     record {
-      leaf = sound.leaf;
       leaf_low = sound.leaf_low;
       leaf_high = sound.leaf_high;
-      height = omega (arith, sound.height);
       low = omega (arith, sound.low);
-      general = refl;
       some = some;
-      rising = part_rises half q e.list sound.rising;
-      spots = All-map (IsSpot half) (moved half) (filter lies e.list)
-          (All-filter lies (λ spot. IsSpot half (moved half spot)) e.list
-          (All-weaker (IsSpot (side_of b (suc h))) (λ spot. IsSpot half (moved half spot)) (λ spot is. moved_spot half (side_of b (suc h)) spot (side_twice b h) is) e.list sound.spots));
+      few = omega (arith, part_is_short half q spots, sound.few);
+      rising = part_rises half q spots sound.rising;
+      spots = All-map (IsSpot half) (moved half) (filter lies spots)
+          (All-filter lies (λ spot. IsSpot half (moved half spot)) spots
+          (All-weaker (IsSpot (side_of b (suc h))) (λ spot. IsSpot half (moved half spot)) (λ spot is. moved_spot half (side_of b (suc h)) spot (side_twice b h) is) spots sound.spots));
+      upper = λ e. absurd (false≢true e);
     }
 
 -- the side of the quadrants, as the entries give it
-pub half_is : (b h : ℕ) (e : Entries) → AreSoundEntries b (suc h) e → side_of e.leaf (e.height - 1) ≡ side_of b h
+pub half_is : (b h : ℕ) (e : Entries) → AreSoundEntries b (suc h) false e → side_of e.leaf (e.height - 1) ≡ side_of b h
 half_is b h e sound = ap₂ side_of sound.leaf (omega (arith, sound.height))
