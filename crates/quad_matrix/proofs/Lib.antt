@@ -20,3 +20,4 @@ pub mod Order
 pub mod PartBlocks
 pub mod Written
 pub mod ListParts
+pub mod ForOthers

@@ -57,7 +57,7 @@ empty_or_not (spot ∷ spots) = inr (omega arith)
 
 module _ (b h : ℕ) (whole : Entries) (sound : AreSoundEntries b (suc h) false whole) where
   -- a part that is not empty is a sound list
-  portion_sound : (q : ℕ) → 1 ≤ length (part_in b h whole q) → AreSoundEntries b h false (portion_of whole (part_in b h whole q))
+  pub portion_sound : (q : ℕ) → 1 ≤ length (part_in b h whole q) → AreSoundEntries b h false (portion_of whole (part_in b h whole q))
   portion_sound q some = record {
     leaf = sound.leaf;
     height = omega (arith, sound.height);

@@ -2,8 +2,8 @@ ghost use Rattle.std.specs.Prelude.{◌≡◌};
 ghost use Rattle.chunk_codec.specs.Spots.{greatest_of};
 ghost use Rattle.quad_matrix.specs.Chunks.{arity_of, few_children_of, IsSoundChunk, peak_in};
 
-use chunk_codec::Spot;
 use cht_ids::List;
+use chunk_codec::Spot;
 use leaf_blocks::Leaf;
 use task_types::Payload;
 

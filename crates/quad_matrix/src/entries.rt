@@ -7,8 +7,8 @@ ghost use Rattle.quad_matrix.specs.Portions.{listed, is_mirrored, takes_mirrored
 
 use crate::chunk::{Entries, MatChunk};
 use crate::kind::What;
-use chunk_codec::Spot;
 use cht_ids::{List, Memory};
+use chunk_codec::Spot;
 use leaf_blocks::Leaf;
 use std::alloc::Global;
 use task_plans::{Part, Portions};
@@ -75,7 +75,9 @@ fn takes_mirrored(part: &Part<What>, quadrant: u8) -> bool
 {
     match part {
         Part::Portion {
-            number, symmetric, ..
+            number,
+            symmetric,
+            ..
         } => *number == quadrant && *symmetric,
         Part::Itself { .. } | Part::Alone(_) | Part::Either { .. } | Part::Pair { .. } => false,
     }

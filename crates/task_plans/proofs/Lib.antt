@@ -5,4 +5,6 @@ pub mod Simple
 pub mod Steps
 pub mod Shapes
 pub mod SoundPlans
+pub mod Choices
 pub mod DraftWorks
+pub mod ForOthers

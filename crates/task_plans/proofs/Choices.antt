@@ -1,10 +1,10 @@
--- The choices of quadrants that a plan allows.
+-- The choices of portions that a plan allows.
 use Rattle.std.proofs.Common.{◌≡◌, Bool, true, false, ◌||◌, map, inl, inr, refl}
 use Rattle.task_types.specs.Presence.{Presence, Present}
 use Rattle.task_types.specs.Places.{Shape, IsOneOf}
-use Rattle.quad_matrix.specs.Plans.{choices}
+use Rattle.task_plans.specs.Plans.{choices}
 
--- each choice with at least one quadrant is among them
+-- each choice with at least one portion is among them
 pub choice_among : {K : Type 0} (shape : Presence → Shape K) (a b c d : Bool) → (a || b || c || d) ≡ true → IsOneOf (shape (Present a b c d)) (map shape choices)
 choice_among shape false false false false some = cc
 choice_among shape true false false false some = inl refl
