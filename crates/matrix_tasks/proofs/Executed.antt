@@ -1,5 +1,5 @@
 -- What the code answers by a plan is sound, and what it needs of the entries that it splits.
-use Rattle.std.proofs.Common.{◌≡◌, ℕ, zero, suc, ◌≤◌, true, Option, None, Some, List, [], ◌∷◌, map, refl, sym, ap, ◌∙◌, subst, arith}
+use Rattle.std.proofs.Common.{◌≡◌, ℕ, zero, suc, ◌≤◌, true, false, Option, None, Some, List, [], ◌∷◌, map, refl, sym, ap, ◌∙◌, subst, arith}
 use Rattle.std.proofs.lemmas.Bool.{false≢true}
 use Rattle.task_types.specs.declared.outcome.Outcome.{Outcome}
 use Rattle.task_types.specs.declared.inputs.Inputs.{Inputs}
@@ -18,26 +18,23 @@ use Rattle.quad_matrix.specs.declared.kind.What.TheVariants.{Assign, Add, Join, 
 use Rattle.quad_matrix.specs.declared.kind.MatKind.{MatKind}
 use Rattle.quad_matrix.specs.Chunks.{arity_of}
 use Rattle.quad_matrix.specs.Blocks.{IsCanonical}
-use Rattle.quad_matrix.specs.Goals.{kind_of, FitsAt, IsDefined, IsList}
+use Rattle.quad_matrix.specs.Goals.{kind_of, kind_at, FitsAt, IsDefined, IsList}
 use Rattle.quad_matrix.specs.Matrices.{matrices}
 use Rattle.quad_matrix.specs.Plans.{plan_of}
-use Rattle.quad_matrix.proofs.Sides.{suc-sub_one}
-use Rattle.quad_matrix.proofs.Roots.{root_of_node}
-use Rattle.matrix_tasks.specs.declared.sketch.Sketch.{Sketch}
+use Rattle.task_plans.specs.Sketches.{planned_outcome}
+use Rattle.quad_matrix.proofs.ForOthers.{root_of_node}
 use Rattle.matrix_tasks.specs.Answers.{entries_shown}
-use Rattle.matrix_tasks.specs.Sketches.{all_sketched, begun, joining, outcome_of, HaveQuadrants, planned_answer}
+use Rattle.matrix_tasks.specs.ByPlan.{portions_shown, HasPortions, planned_answer}
 use Rattle.matrix_tasks.proofs.ByPlan.{add_by_plan, trace_by_plan}
-use Rattle.matrix_tasks.proofs.AssignByPlan.{list_by_plan}
+use Rattle.matrix_tasks.proofs.AssignByPlan.{list_by_plan, portions_sound}
 
 -- the answer of a kind, by what is known of its inputs and by the entries that the first one shows
 answer_is : (what : What) (h : ℕ) (inputs : Inputs MatChunk) (known : List Presence) (shown : Option Entries)
     → presences_in inputs ≡ known → entries_shown inputs.first ≡ shown
-    → planned_answer (kind_of what (suc h)) inputs ≡ outcome_of (suc h) (joining (plan_of what).ending) (all_sketched h known (begun shown) (plan_of what).parts)
+    → planned_answer (kind_of what (suc h)) inputs ≡ planned_outcome kind_at (suc h) (plan_of what) (portions_shown what shown) known
 answer_is what h inputs known shown e f =
-    let ended : Sketch → Outcome MatChunk MatKind = λ sketch. outcome_of (suc h) (joining (plan_of what).ending) sketch in
-    ap (λ low. ended (all_sketched low (presences_in inputs) (begun (entries_shown inputs.first)) (plan_of what).parts)) (suc-sub_one h)
-    ∙ ap (λ (known : List Presence). ended (all_sketched h known (begun (entries_shown inputs.first)) (plan_of what).parts)) e
-    ∙ ap (λ (shown : Option Entries). ended (all_sketched h known (begun shown) (plan_of what).parts)) f
+    ap (λ (known : List Presence). planned_outcome kind_at (suc h) (plan_of what) (portions_shown what (entries_shown inputs.first)) known) e
+    ∙ ap (λ (shown : Option Entries). planned_outcome kind_at (suc h) (plan_of what) (portions_shown what shown) known) f
 
 assign_executes : (b h : ℕ) (inputs : Inputs MatChunk) (x : Tree MatChunk) → suc h ≤ 16 → FitsAt b Assign (suc h) (x ∷ []) → Shows inputs (x ∷ [])
     → all_present (map presence_of (x ∷ [])) ≡ true
@@ -71,7 +68,7 @@ at_height Add h inputs e there (x ∷ y ∷ []) shows d =
     let known = presences_in-shown inputs trees shows in
     subst (λ (outcome : Outcome MatChunk MatKind). IsSound arity_of matrices (kind_of Add (suc h)) trees outcome)
     (sym (answer_is Add h inputs (map presence_of trees) (entries_shown inputs.first) known refl))
-    (add_by_plan d.leaf h (entries_shown inputs.first) x y d.leaf_high d.low (ap all_present (sym known) ∙ there) d.fits)
+    (add_by_plan d.leaf h (portions_shown Add (entries_shown inputs.first)) x y d.leaf_high d.low (ap all_present (sym known) ∙ there) d.fits)
 at_height Add h inputs e there (x ∷ y ∷ z ∷ trees) shows d = absurd d.fits
 at_height Trace h inputs e there [] shows d = absurd d.fits
 at_height Trace h inputs e there (x ∷ []) shows d =
@@ -79,7 +76,7 @@ at_height Trace h inputs e there (x ∷ []) shows d =
     let known = presences_in-shown inputs trees shows in
     subst (λ (outcome : Outcome MatChunk MatKind). IsSound arity_of matrices (kind_of Trace (suc h)) trees outcome)
     (sym (answer_is Trace h inputs (map presence_of trees) (entries_shown inputs.first) known refl))
-    (trace_by_plan d.leaf h (entries_shown inputs.first) x d.leaf_high d.low (ap all_present (sym known) ∙ there) d.fits)
+    (trace_by_plan d.leaf h (portions_shown Trace (entries_shown inputs.first)) x d.leaf_high d.low (ap all_present (sym known) ∙ there) d.fits)
 at_height Trace h inputs e there (x ∷ y ∷ trees) shows d = absurd d.fits
 
 -- what a kind of height at least 1 answers where its inputs are there is sound
@@ -97,39 +94,44 @@ no_entries b h Nothing is = refl
 no_entries b h (Root c x0 x1 x2 x3) is =
     ap (λ (content : MatChunk). entries_shown (view.There content (mask (is_there x0) (is_there x1) (is_there x2) (is_there x3)))) (root_of_node b h c x0 x1 x2 x3 is)
 
-list_quadrants : (b h : ℕ) (x : Tree MatChunk) → suc h ≤ 16 → IsList b (suc h) x → HaveQuadrants (entries_shown (view_of x))
-list_quadrants b h Nothing low is = tt
-list_quadrants b h (Root (chunk.Leaf m) x0 x1 x2 x3) low is = absurd is
-list_quadrants b h (Root (chunk.Node k peak) x0 x1 x2 x3) low is = absurd is
-list_quadrants b h (Root (chunk.Num n) x0 x1 x2 x3) low is = absurd is
-list_quadrants b h (Root (chunk.Entries e) x0 x1 x2 x3) low is =
-    (omega (arith, is.0.leaf, is.0.leaf_high), omega (arith, is.0.height), omega (arith, is.0.height))
+list_splits : (b h : ℕ) (x : Tree MatChunk) → suc h ≤ 16 → IsList b (suc h) false x → HasPortions Assign (entries_shown (view_of x))
+list_splits b h Nothing low is = tt
+list_splits b h (Root (chunk.Leaf m) x0 x1 x2 x3) low is = absurd is
+list_splits b h (Root (chunk.Node k peak) x0 x1 x2 x3) low is = absurd is
+list_splits b h (Root (chunk.Num n) x0 x1 x2 x3) low is = absurd is
+list_splits b h (Root (chunk.Entries e) x0 x1 x2 x3) low is =
+    record {
+      leaf = omega (arith, is.0.leaf, is.0.listed.leaf_high);
+      low = omega (arith, is.0.height);
+      high = omega (arith, is.0.height);
+      sound = portions_sound b h e is.0;
+    }
 
-quadrants_at : (what : What) (h : ℕ) (inputs : Inputs MatChunk) → (what ≡ Join → ⊥)
+portions_at : (what : What) (h : ℕ) (inputs : Inputs MatChunk) → (what ≡ Join → ⊥)
     → (trees : List (Tree MatChunk)) → Shows inputs trees → IsDefined (kind_of what (suc h)) trees
-    → HaveQuadrants (entries_shown inputs.first)
-quadrants_at Join h inputs e trees shows d = absurd (e refl)
-quadrants_at AddNum h inputs e [] shows d = absurd d.fits
-quadrants_at AddNum h inputs e (x ∷ []) shows d = absurd d.fits
-quadrants_at AddNum h inputs e (x ∷ y ∷ []) shows d = let none : suc h ≡ 0 = d.fits.0 in absurd (omega arith)
-quadrants_at AddNum h inputs e (x ∷ y ∷ z ∷ trees) shows d = absurd d.fits
-quadrants_at Assign h inputs e [] shows d = absurd d.fits
-quadrants_at Assign h inputs e (x ∷ []) shows d =
-    subst (λ (shown : View MatChunk). HaveQuadrants (entries_shown shown)) (sym (first-shown_one inputs x shows)) (list_quadrants d.leaf h x d.low d.fits)
-quadrants_at Assign h inputs e (x ∷ y ∷ trees) shows d = absurd d.fits
-quadrants_at Add h inputs e [] shows d = absurd d.fits
-quadrants_at Add h inputs e (x ∷ []) shows d = absurd d.fits
-quadrants_at Add h inputs e (x ∷ y ∷ []) shows d =
-    subst HaveQuadrants (sym (ap entries_shown (first-shown_two inputs x y shows) ∙ no_entries d.leaf h x d.fits.0)) tt
-quadrants_at Add h inputs e (x ∷ y ∷ z ∷ trees) shows d = absurd d.fits
-quadrants_at Trace h inputs e [] shows d = absurd d.fits
-quadrants_at Trace h inputs e (x ∷ []) shows d =
-    subst HaveQuadrants (sym (ap entries_shown (first-shown_one inputs x shows) ∙ no_entries d.leaf h x d.fits.0)) tt
-quadrants_at Trace h inputs e (x ∷ y ∷ trees) shows d = absurd d.fits
+    → HasPortions what (entries_shown inputs.first)
+portions_at Join h inputs e trees shows d = absurd (e refl)
+portions_at AddNum h inputs e [] shows d = absurd d.fits
+portions_at AddNum h inputs e (x ∷ []) shows d = absurd d.fits
+portions_at AddNum h inputs e (x ∷ y ∷ []) shows d = let none : suc h ≡ 0 = d.fits.0 in absurd (omega arith)
+portions_at AddNum h inputs e (x ∷ y ∷ z ∷ trees) shows d = absurd d.fits
+portions_at Assign h inputs e [] shows d = absurd d.fits
+portions_at Assign h inputs e (x ∷ []) shows d =
+    subst (λ (shown : View MatChunk). HasPortions Assign (entries_shown shown)) (sym (first-shown_one inputs x shows)) (list_splits d.leaf h x d.low d.fits)
+portions_at Assign h inputs e (x ∷ y ∷ trees) shows d = absurd d.fits
+portions_at Add h inputs e [] shows d = absurd d.fits
+portions_at Add h inputs e (x ∷ []) shows d = absurd d.fits
+portions_at Add h inputs e (x ∷ y ∷ []) shows d =
+    subst (HasPortions Add) (sym (ap entries_shown (first-shown_two inputs x y shows) ∙ no_entries d.leaf h x d.fits.0)) tt
+portions_at Add h inputs e (x ∷ y ∷ z ∷ trees) shows d = absurd d.fits
+portions_at Trace h inputs e [] shows d = absurd d.fits
+portions_at Trace h inputs e (x ∷ []) shows d =
+    subst (HasPortions Trace) (sym (ap entries_shown (first-shown_one inputs x shows) ∙ no_entries d.leaf h x d.fits.0)) tt
+portions_at Trace h inputs e (x ∷ y ∷ trees) shows d = absurd d.fits
 
--- entries that are shown to a kind of height at least 1 have quadrants
-pub have_quadrants : (what : What) (height : ℕ) (inputs : Inputs MatChunk) → (what ≡ Join → ⊥) → 1 ≤ height
+-- entries that are shown to a kind of height at least 1 have sound portions
+pub have_portions : (what : What) (height : ℕ) (inputs : Inputs MatChunk) → (what ≡ Join → ⊥) → 1 ≤ height
     → (trees : List (Tree MatChunk)) → Shows inputs trees → IsDefined (kind_of what height) trees
-    → HaveQuadrants (entries_shown inputs.first)
-have_quadrants what zero inputs e high trees shows d = absurd (omega arith)
-have_quadrants what (suc h) inputs e high trees shows d = quadrants_at what h inputs e trees shows d
+    → HasPortions what (entries_shown inputs.first)
+have_portions what zero inputs e high trees shows d = absurd (omega arith)
+have_portions what (suc h) inputs e high trees shows d = portions_at what h inputs e trees shows d

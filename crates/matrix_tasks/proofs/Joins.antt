@@ -20,15 +20,16 @@ use Rattle.quad_matrix.specs.declared.kind.MatKind.{MatKind}
 use Rattle.quad_matrix.specs.Chunks.{arity_of}
 use Rattle.quad_matrix.specs.Goals.{kind_of, goal_of, FitsAt, IsDefined}
 use Rattle.quad_matrix.specs.Matrices.{matrices}
-use Rattle.quad_matrix.specs.Plans.{shapes_of, full_shapes, null_shape, given_shape, joined_shape, input_place, join_places, are_null, may_have, inputs_of}
-use Rattle.quad_matrix.proofs.Quadrants.{any_there, join_peak, join_nothing, join_some}
-use Rattle.quad_matrix.proofs.Roots.{tree_peak, peak_of_tree}
-use Rattle.quad_matrix.proofs.Sums.{join_goal, join_fits}
-use Rattle.quad_matrix.proofs.AnySide.{goal_any}
-use Rattle.matrix_tasks.specs.Answers.{given, one_chunk, peak_shown, greatest_peak, join_answer}
-use Rattle.matrix_tasks.proofs.Lists.{true_or_false, both_pass}
-use Rattle.matrix_tasks.proofs.Simple.{input_given, given_sound}
-use Rattle.matrix_tasks.proofs.Stage as stage
+use Rattle.task_plans.specs.Plans.{given_shape, input_place, are_null}
+use Rattle.quad_matrix.specs.Plans.{shapes_of, full_shapes, null_shape, joined_shape, join_places, may_have, inputs_of}
+use Rattle.quad_matrix.proofs.ForOthers.{any_there, join_peak, join_nothing, join_some}
+use Rattle.quad_matrix.proofs.ForOthers.{tree_peak, peak_of_tree}
+use Rattle.quad_matrix.proofs.ForOthers.{join_goal, join_fits}
+use Rattle.quad_matrix.proofs.ForOthers.{goal_any}
+use Rattle.task_plans.specs.Outcomes.{given, one_chunk}
+use Rattle.matrix_tasks.specs.Answers.{peak_shown, greatest_peak, join_answer}
+use Rattle.task_plans.proofs.ForOthers.{true_or_false, both_pass}
+use Rattle.task_plans.proofs.ForOthers.{input_given, given_sound, node_sound, begun}
 
 -- ---- Plans
 
@@ -70,7 +71,7 @@ pub shown_peak : (tree : Tree MatChunk) → peak_shown (view_of tree) ≡ tree_p
 shown_peak Nothing = refl
 shown_peak (Root c x y z w) = refl
 
-four_peaks : (inputs : Inputs MatChunk) (x y z w : Tree MatChunk) → Shows inputs (x ∷ y ∷ z ∷ w ∷ [])
+pub four_peaks : (inputs : Inputs MatChunk) (x y z w : Tree MatChunk) → Shows inputs (x ∷ y ∷ z ∷ w ∷ [])
     → greatest_peak inputs ≡ max (max (tree_peak x) (tree_peak y)) (max (tree_peak z) (tree_peak w))
 four_peaks inputs x y z w s =
     let e = rw s.0 at s.1 in
@@ -93,7 +94,7 @@ none_sound b h x y z w low fits null =
     let none : any_there x y z w ≡ false = sym (not_not (any_there x y z w)) ∙ ap not (sym (nulls_where_none x y z w) ∙ null) in
     let goal : goal_of kind trees ≡ Nothing = goal_any b Join (suc h) trees fits ∙ join_goal b h x y z w ∙ join_nothing b h x y z w none in
     let shape : given_shape Null ≡ joined_shape known = sym (cond-true (are_null (join_places known)) (given_shape Null) (shape_from (filled (join_places known) ∷ []) [] (Chunk 0)) null) in
-    given_sound kind trees Null refl (sym goal) (subst (IsOneOf (given_shape Null)) (sym (join_shapes h x y z w low)) (inl shape))
+    given_sound arity_of matrices kind trees Null refl (sym goal) (subst (IsOneOf (given_shape Null)) (sym (join_shapes h x y z w low)) (inl shape))
 
 -- four trees, of which one is there
 some_sound : (b h : ℕ) (x y z w : Tree MatChunk) → suc h ≤ 16 → FitsAt b Join (suc h) (x ∷ y ∷ z ∷ w ∷ [])
@@ -112,12 +113,11 @@ some_sound b h x y z w low fits null =
     let p0 : Place = input_place known 0 in
     let p1 : Place = input_place known 1 in
     let p2 : Place = input_place known 2 in
-    let s1 = input_given rank trees [] [] 0 (stage.begun arity_of matrices rank trees) in
-    let s2 = input_given rank trees (p0 ∷ []) (x ∷ []) 1 s1 in
-    let s3 = input_given rank trees (p0 ∷ p1 ∷ []) (x ∷ y ∷ []) 2 s2 in
-    let s4 = input_given rank trees (p0 ∷ p1 ∷ p2 ∷ []) (x ∷ y ∷ z ∷ []) 3 s3 in
-    stage.finished arity_of matrices kind trees (one_chunk node (join_places known)) (Root node x y z w) (omega arith) (omega arith) (subst (IsOneOf (shape_from (filled (join_places known) ∷ []) [] (Chunk 0))) (sym (join_shapes h x y z w low)) (inl shape)) (sym goal)
-    (stage.made arity_of matrices rank trees [] [] [] (join_places known) [] trees node refl (omega arith) refl s4.stand s4)
+    let s1 = input_given arity_of matrices rank trees [] [] 0 (begun arity_of matrices rank trees) in
+    let s2 = input_given arity_of matrices rank trees (p0 ∷ []) (x ∷ []) 1 s1 in
+    let s3 = input_given arity_of matrices rank trees (p0 ∷ p1 ∷ []) (x ∷ y ∷ []) 2 s2 in
+    let s4 = input_given arity_of matrices rank trees (p0 ∷ p1 ∷ p2 ∷ []) (x ∷ y ∷ z ∷ []) 3 s3 in
+    node_sound arity_of matrices kind trees node (join_places known) trees (omega arith) refl (sym goal) (subst (IsOneOf (shape_from (filled (join_places known) ∷ []) [] (Chunk 0))) (sym (join_shapes h x y z w low)) (inl shape)) s4
 
 join_at : (b h : ℕ) (inputs : Inputs MatChunk) (x y z w : Tree MatChunk) → suc h ≤ 16 → FitsAt b Join (suc h) (x ∷ y ∷ z ∷ w ∷ [])
     → Shows inputs (x ∷ y ∷ z ∷ w ∷ [])

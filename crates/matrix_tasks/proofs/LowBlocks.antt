@@ -19,9 +19,9 @@ use Rattle.quad_matrix.specs.Chunks.{arity_of}
 use Rattle.quad_matrix.specs.Blocks.{block_of, number_of, IsCanonical, IsNumber}
 use Rattle.quad_matrix.specs.Goals.{kind_of, FitsAt, IsDefined}
 use Rattle.quad_matrix.specs.Matrices.{matrices}
-use Rattle.quad_matrix.proofs.Roots.{root_of_leaf}
-use Rattle.quad_matrix.proofs.Numbers.{root_of_number}
-use Rattle.quad_matrix.proofs.AnySide.{goal_any}
+use Rattle.quad_matrix.proofs.ForOthers.{root_of_leaf, side_low}
+use Rattle.quad_matrix.proofs.ForOthers.{root_of_number}
+use Rattle.quad_matrix.proofs.ForOthers.{goal_any}
 use Rattle.matrix_tasks.specs.Answers.{number_shown, number_outcome, leaf_shown, LeavesFit, add_answer}
 use Rattle.matrix_tasks.proofs.Simple.{leaf_sound, number_sound}
 
@@ -113,15 +113,15 @@ add_sound Add zero inputs e l there (x ∷ y ∷ []) shows d =
     rw (first-shown_two inputs x y shows, second-shown_two inputs x y shows) (add_at d.leaf x y d.fits present)
 add_sound Add zero inputs e l there (x ∷ y ∷ z ∷ trees) shows d = absurd d.fits
 
-leaves_at : (b : ℕ) (x y : Tree MatChunk) → FitsAt b Add 0 (x ∷ y ∷ []) → LeavesFit (leaf_shown (view_of x)) (leaf_shown (view_of y))
-leaves_at b Nothing y fits = tt
-leaves_at b (Root c x0 x1 x2 x3) Nothing fits = subst (λ (m : Option Matrix). LeavesFit m None) (sym (shown_leaf b c x0 x1 x2 x3 fits.0)) tt
-leaves_at b (Root c x0 x1 x2 x3) (Root d y0 y1 y2 y3) fits =
+leaves_at : (b : ℕ) (x y : Tree MatChunk) → b ≤ 64 → FitsAt b Add 0 (x ∷ y ∷ []) → LeavesFit (leaf_shown (view_of x)) (leaf_shown (view_of y))
+leaves_at b Nothing y side fits = tt
+leaves_at b (Root c x0 x1 x2 x3) Nothing side fits = subst (λ (m : Option Matrix). LeavesFit m None) (sym (shown_leaf b c x0 x1 x2 x3 fits.0)) tt
+leaves_at b (Root c x0 x1 x2 x3) (Root d y0 y1 y2 y3) side fits =
     let x : Tree MatChunk = Root c x0 x1 x2 x3 in
     let y : Tree MatChunk = Root d y0 y1 y2 y3 in
     subst (λ (m : Option Matrix). LeavesFit m (leaf_shown (view_of y))) (sym (shown_leaf b c x0 x1 x2 x3 fits.0))
     (subst (λ (m : Option Matrix). LeavesFit (Some (block_of b 0 x)) m) (sym (shown_leaf b d y0 y1 y2 y3 fits.1))
-    (fits.0.sized.tall ∙ sym fits.1.sized.tall, fits.2))
+    (fits.0.sized.tall ∙ sym fits.1.sized.tall, omega (arith, fits.0.sized.tall, side_low b, side), fits.2))
 
 -- the two leaves fit
 pub leaves_fit : (what : What) (height : ℕ) (inputs : Inputs MatChunk) → what ≡ Add → height ≡ 0
@@ -135,5 +135,5 @@ leaves_fit Add (suc h) inputs e l trees shows d = absurd (omega arith)
 leaves_fit Add zero inputs e l [] shows d = absurd d.fits
 leaves_fit Add zero inputs e l (x ∷ []) shows d = absurd d.fits
 leaves_fit Add zero inputs e l (x ∷ y ∷ []) shows d =
-    rw (first-shown_two inputs x y shows, second-shown_two inputs x y shows) (leaves_at d.leaf x y d.fits)
+    rw (first-shown_two inputs x y shows, second-shown_two inputs x y shows) (leaves_at d.leaf x y d.leaf_high d.fits)
 leaves_fit Add zero inputs e l (x ∷ y ∷ z ∷ trees) shows d = absurd d.fits

@@ -1,5 +1,5 @@
 -- What the kinds with one input answer at height 0 is sound.
-use Rattle.std.proofs.Common.{◌≡◌, ℕ, zero, suc, true, Option, List, [], ◌∷◌, refl, sym, ap, ◌∙◌, subst, inl, inr, arith}
+use Rattle.std.proofs.Common.{◌≡◌, ℕ, zero, suc, true, false, Option, List, [], ◌∷◌, refl, sym, ap, ◌∙◌, subst, inl, inr, arith}
 use Rattle.std.proofs.lemmas.Bool.{false≢true}
 use Rattle.dense_def.specs.Matrix.{Matrix, trace_of}
 use Rattle.task_types.specs.declared.inputs.Inputs.{Inputs}
@@ -16,9 +16,9 @@ use Rattle.quad_matrix.specs.Chunks.{arity_of}
 use Rattle.quad_matrix.specs.Blocks.{block_of}
 use Rattle.quad_matrix.specs.Goals.{kind_of, FitsAt, IsDefined, IsList}
 use Rattle.quad_matrix.specs.Matrices.{matrices}
-use Rattle.quad_matrix.proofs.AnySide.{goal_any}
+use Rattle.quad_matrix.proofs.ForOthers.{goal_any}
 use Rattle.matrix_tasks.specs.Answers.{leaf_shown, entries_shown, LeafFits, AreForLeaf, trace_answer, assign_answer, leaf_outcome}
-use Rattle.matrix_tasks.proofs.AssignParts.{sound_at_leaf, leaf_is}
+use Rattle.quad_matrix.proofs.ForOthers.{sound_at_leaf, leaf_is}
 use Rattle.matrix_tasks.proofs.Simple.{leaf_sound, number_sound}
 use Rattle.matrix_tasks.proofs.LowBlocks.{shown_leaf}
 
@@ -65,7 +65,7 @@ leaf_fits Trace zero inputs e l (x ∷ y ∷ trees) shows d = absurd d.fits
 
 -- ---- Leaves of entries
 
-assign_at : (b : ℕ) (x : Tree MatChunk) → IsList b 0 x → all_present (presence_of x ∷ []) ≡ true
+assign_at : (b : ℕ) (x : Tree MatChunk) → IsList b 0 false x → all_present (presence_of x ∷ []) ≡ true
     → IsSound arity_of matrices (kind_of Assign 0) (x ∷ []) (assign_answer (entries_shown (view_of x)))
 assign_at b Nothing fits there = absurd (false≢true there)
 assign_at b (Root (chunk.Leaf m) x0 x1 x2 x3) fits there = absurd fits
@@ -90,7 +90,7 @@ assign_sound Assign zero inputs e l there (x ∷ []) shows d =
     rw (first-shown_one inputs x shows) (assign_at d.leaf x d.fits (ap all_present (sym (presences_in-shown inputs (x ∷ []) shows)) ∙ there))
 assign_sound Assign zero inputs e l there (x ∷ y ∷ trees) shows d = absurd d.fits
 
-entries_at : (b : ℕ) (x : Tree MatChunk) → IsList b 0 x → AreForLeaf (entries_shown (view_of x))
+entries_at : (b : ℕ) (x : Tree MatChunk) → IsList b 0 false x → AreForLeaf (entries_shown (view_of x))
 entries_at b Nothing fits = tt
 entries_at b (Root (chunk.Leaf m) x0 x1 x2 x3) fits = absurd fits
 entries_at b (Root (chunk.Node k peak) x0 x1 x2 x3) fits = absurd fits

@@ -15,12 +15,13 @@ use Rattle.quad_matrix.specs.declared.kind.What.TheVariants.{Assign, Add, Join, 
 use Rattle.quad_matrix.specs.Chunks.{arity_of}
 use Rattle.quad_matrix.specs.Goals.{kind_of, FitsAt, IsDefined}
 use Rattle.quad_matrix.specs.Matrices.{matrices}
-use Rattle.quad_matrix.specs.Plans.{given_shape}
-use Rattle.quad_matrix.proofs.Sums.{add_with_nothing, add_nothing_with, add_nothing}
-use Rattle.quad_matrix.proofs.Numbers.{addnum_with_nothing, addnum_nothing_with, trace_of_nothing}
-use Rattle.quad_matrix.proofs.AnySide.{goal_any, assign_nothing}
-use Rattle.matrix_tasks.specs.Answers.{given, null_place}
-use Rattle.matrix_tasks.proofs.Simple.{given_sound}
+use Rattle.task_plans.specs.Plans.{given_shape}
+use Rattle.quad_matrix.proofs.ForOthers.{add_with_nothing, add_nothing_with, add_nothing}
+use Rattle.quad_matrix.proofs.ForOthers.{addnum_with_nothing, addnum_nothing_with, trace_of_nothing}
+use Rattle.quad_matrix.proofs.ForOthers.{goal_any, assign_nothing}
+use Rattle.task_plans.specs.Outcomes.{given}
+use Rattle.matrix_tasks.specs.Answers.{null_place}
+use Rattle.task_plans.proofs.ForOthers.{given_sound}
 use Rattle.matrix_tasks.proofs.Joins.{shapes_open}
 
 null_at : (b : ℕ) (what : What) (h : ℕ) (trees : List (Tree MatChunk)) → (what ≡ Join → ⊥) → h ≤ 16 → FitsAt b what h trees
@@ -30,42 +31,42 @@ null_at b Join h trees other low fits null = absurd (other refl)
 null_at b Assign h [] other low fits null = absurd fits
 null_at b Assign h (Root c x y z w ∷ []) other low fits null = absurd (false≢true (sym null))
 null_at b Assign h (Nothing ∷ []) other low fits null =
-    given_sound (kind_of Assign h) (Nothing ∷ []) Null refl (sym (goal_any b Assign h (Nothing ∷ []) fits ∙ assign_nothing b h))
+    given_sound arity_of matrices (kind_of Assign h) (Nothing ∷ []) Null refl (sym (goal_any b Assign h (Nothing ∷ []) fits ∙ assign_nothing b h))
     (subst (IsOneOf (given_shape Null)) (sym (shapes_open Assign h (Absent ∷ []) refl (le-leb h 16 low))) (inl refl))
 null_at b Assign h (x ∷ y ∷ trees) other low fits null = absurd fits
 null_at b Trace h [] other low fits null = absurd fits
 null_at b Trace h (Root c x y z w ∷ []) other low fits null = absurd (false≢true (sym null))
 null_at b Trace h (Nothing ∷ []) other low fits null =
-    given_sound (kind_of Trace h) (Nothing ∷ []) Null refl (sym (goal_any b Trace h (Nothing ∷ []) fits ∙ trace_of_nothing b h))
+    given_sound arity_of matrices (kind_of Trace h) (Nothing ∷ []) Null refl (sym (goal_any b Trace h (Nothing ∷ []) fits ∙ trace_of_nothing b h))
     (subst (IsOneOf (given_shape Null)) (sym (shapes_open Trace h (Absent ∷ []) refl (le-leb h 16 low))) (inl refl))
 null_at b Trace h (x ∷ y ∷ trees) other low fits null = absurd fits
 null_at b Add h [] other low fits null = absurd fits
 null_at b Add h (x ∷ []) other low fits null = absurd fits
 null_at b Add h (Nothing ∷ Nothing ∷ []) other low fits null =
-    given_sound (kind_of Add h) (Nothing ∷ Nothing ∷ []) Null refl (sym (goal_any b Add h (Nothing ∷ Nothing ∷ []) fits ∙ add_nothing b h))
+    given_sound arity_of matrices (kind_of Add h) (Nothing ∷ Nothing ∷ []) Null refl (sym (goal_any b Add h (Nothing ∷ Nothing ∷ []) fits ∙ add_nothing b h))
     (subst (IsOneOf (given_shape Null)) (sym (shapes_open Add h (Absent ∷ Absent ∷ []) refl (le-leb h 16 low))) (inl refl))
 null_at b Add h (Root c x y z w ∷ Nothing ∷ []) other low fits null =
     let tree : Tree MatChunk = Root c x y z w in
-    given_sound (kind_of Add h) (tree ∷ Nothing ∷ []) (Input 0) refl (sym (goal_any b Add h (tree ∷ Nothing ∷ []) fits ∙ add_with_nothing b h tree fits))
+    given_sound arity_of matrices (kind_of Add h) (tree ∷ Nothing ∷ []) (Input 0) refl (sym (goal_any b Add h (tree ∷ Nothing ∷ []) fits ∙ add_with_nothing b h tree fits))
     (subst (IsOneOf (given_shape (Input 0))) (sym (shapes_open Add h (map presence_of (tree ∷ Nothing ∷ [])) refl (le-leb h 16 low))) (inl refl))
 null_at b Add h (Nothing ∷ Root c x y z w ∷ []) other low fits null =
     let tree : Tree MatChunk = Root c x y z w in
-    given_sound (kind_of Add h) (Nothing ∷ tree ∷ []) (Input 1) refl (sym (goal_any b Add h (Nothing ∷ tree ∷ []) fits ∙ add_nothing_with b h tree fits))
+    given_sound arity_of matrices (kind_of Add h) (Nothing ∷ tree ∷ []) (Input 1) refl (sym (goal_any b Add h (Nothing ∷ tree ∷ []) fits ∙ add_nothing_with b h tree fits))
     (subst (IsOneOf (given_shape (Input 1))) (sym (shapes_open Add h (map presence_of (Nothing ∷ tree ∷ [])) refl (le-leb h 16 low))) (inl refl))
 null_at b Add h (Root c x y z w ∷ Root d x1 y1 z1 w1 ∷ []) other low fits null = absurd (false≢true (sym null))
 null_at b Add h (x ∷ y ∷ z ∷ trees) other low fits null = absurd fits
 null_at b AddNum h [] other low fits null = absurd fits
 null_at b AddNum h (x ∷ []) other low fits null = absurd fits
 null_at b AddNum h (Nothing ∷ Nothing ∷ []) other low fits null =
-    given_sound (kind_of AddNum h) (Nothing ∷ Nothing ∷ []) Null refl (sym (goal_any b AddNum h (Nothing ∷ Nothing ∷ []) fits ∙ addnum_with_nothing b h Nothing fits.1))
+    given_sound arity_of matrices (kind_of AddNum h) (Nothing ∷ Nothing ∷ []) Null refl (sym (goal_any b AddNum h (Nothing ∷ Nothing ∷ []) fits ∙ addnum_with_nothing b h Nothing fits.1))
     (subst (IsOneOf (given_shape Null)) (sym (shapes_open AddNum h (Absent ∷ Absent ∷ []) refl (eq-eqb h 0 fits.0))) (inl refl))
 null_at b AddNum h (Root c x y z w ∷ Nothing ∷ []) other low fits null =
     let tree : Tree MatChunk = Root c x y z w in
-    given_sound (kind_of AddNum h) (tree ∷ Nothing ∷ []) (Input 0) refl (sym (goal_any b AddNum h (tree ∷ Nothing ∷ []) fits ∙ addnum_with_nothing b h tree fits.1))
+    given_sound arity_of matrices (kind_of AddNum h) (tree ∷ Nothing ∷ []) (Input 0) refl (sym (goal_any b AddNum h (tree ∷ Nothing ∷ []) fits ∙ addnum_with_nothing b h tree fits.1))
     (subst (IsOneOf (given_shape (Input 0))) (sym (shapes_open AddNum h (map presence_of (tree ∷ Nothing ∷ [])) refl (eq-eqb h 0 fits.0))) (inl refl))
 null_at b AddNum h (Nothing ∷ Root c x y z w ∷ []) other low fits null =
     let tree : Tree MatChunk = Root c x y z w in
-    given_sound (kind_of AddNum h) (Nothing ∷ tree ∷ []) (Input 1) refl (sym (goal_any b AddNum h (Nothing ∷ tree ∷ []) fits ∙ addnum_nothing_with b h tree fits.2))
+    given_sound arity_of matrices (kind_of AddNum h) (Nothing ∷ tree ∷ []) (Input 1) refl (sym (goal_any b AddNum h (Nothing ∷ tree ∷ []) fits ∙ addnum_nothing_with b h tree fits.2))
     (subst (IsOneOf (given_shape (Input 1))) (sym (shapes_open AddNum h (map presence_of (Nothing ∷ tree ∷ [])) refl (eq-eqb h 0 fits.0))) (inl refl))
 null_at b AddNum h (Root c x y z w ∷ Root d x1 y1 z1 w1 ∷ []) other low fits null = absurd (false≢true (sym null))
 null_at b AddNum h (x ∷ y ∷ z ∷ trees) other low fits null = absurd fits

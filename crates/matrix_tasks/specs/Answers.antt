@@ -1,36 +1,39 @@
 -- What the kinds answer without new tasks, as functions of what is shown of the inputs.
-use Rattle.std.specs.Prelude.{◌≡◌, ℕ, ◌==◌, if◌then◌else◌, max, Option, None, Some, List, [], ◌∷◌, ℤ, pos, unsigned_abs}
+use Rattle.std.specs.Prelude.{◌≡◌, ℕ, ◌≤◌, Bool, true, false, ◌==◌, if◌then◌else◌, max, Option, None, Some, List, [], ℤ, pos, unsigned_abs}
 use Rattle.dense_def.specs.Matrix.{Matrix, height, peak_of, plus, trace_of, SumFits, TraceFits}
 use Rattle.task_types.specs.declared.outcome.Place.{Place}
-use Rattle.task_types.specs.declared.outcome.Place.TheVariants.{Null, Chunk}
+use Rattle.task_types.specs.declared.outcome.Place.TheVariants.{Null}
 use Rattle.task_types.specs.declared.outcome.Outcome.{Outcome}
 use Rattle.task_types.specs.declared.inputs.View.{View}
 use Rattle.task_types.specs.declared.inputs.View.TheVariants as view
 use Rattle.task_types.specs.declared.inputs.Inputs.{Inputs}
 use Rattle.task_types.specs.Presence.{Presence}
 use Rattle.task_types.specs.Shown.{presences_in}
-use Rattle.task_types.specs.Places.{filled}
+use Rattle.chunk_codec.specs.Sound.{IsSoundNode}
+use Rattle.task_plans.specs.Plans.{are_null, other_place}
+use Rattle.task_plans.specs.Outcomes.{given, one_chunk}
 use Rattle.quad_matrix.specs.declared.chunk.MatChunk.{MatChunk}
 use Rattle.quad_matrix.specs.declared.chunk.MatChunk.TheVariants.{Leaf, Node, Num}
 use Rattle.quad_matrix.specs.declared.chunk.MatChunk.TheVariants as chunk
 use Rattle.quad_matrix.specs.declared.chunk.Entries.{Entries}
 use Rattle.quad_matrix.specs.declared.kind.What.{What}
-use Rattle.quad_matrix.specs.declared.kind.What.TheVariants.{Add, AddNum}
+use Rattle.quad_matrix.specs.declared.kind.What.TheVariants.{Assign, Add, Join, Trace, AddNum}
 use Rattle.quad_matrix.specs.declared.kind.MatKind.{MatKind}
 use Rattle.quad_matrix.specs.Spots.{AreSoundEntries, block_of_spots}
 use Rattle.quad_matrix.specs.Chunks.{peak_in}
-use Rattle.quad_matrix.specs.Plans.{are_null, join_places, other_place}
+use Rattle.quad_matrix.specs.Plans.{join_places}
+
+-- ---- Kinds
+
+-- whether a kind is one of general matrices and numbers
+abbrev pub is_general : What → Bool
+is_general Assign = true
+is_general Add = true
+is_general Join = true
+is_general Trace = true
+is_general AddNum = true
 
 -- ---- Outcomes
-
--- an outcome without new chunks and tasks
-abbrev pub given : Place → Outcome MatChunk MatKind
-given output = record { chunks = []; tasks = []; result = output }
-
--- a content over these places as the one new chunk, which is the result
-abbrev pub one_chunk : MatChunk → List Place → Outcome MatChunk MatKind
-one_chunk content places =
-    record { chunks = record { body = content; children = filled places } ∷ []; tasks = []; result = Chunk 0 }
 
 -- a block as a leaf, or null where it is zero
 abbrev pub leaf_outcome : Matrix → Outcome MatChunk MatKind
@@ -66,11 +69,17 @@ join_answer height inputs =
     if are_null (join_places (presences_in inputs)) then given Null
     else one_chunk (Node height (greatest_peak inputs)) (join_places (presences_in inputs))
 
+-- where an input is there, a node over the inputs is sound
+abbrev pub NodeFits : ℕ → Inputs MatChunk → Type 0
+NodeFits height inputs = are_null (join_places (presences_in inputs)) ≡ false → IsSoundNode height (greatest_peak inputs)
+
 -- where an input is null: of a sum the other input, else null
 abbrev pub null_place : What → List Presence → Place
+null_place Assign known = Null
 null_place Add known = other_place known
+null_place Join known = Null
+null_place Trace known = Null
 null_place AddNum known = other_place known
-null_place what known = Null
 
 -- the leaf that an input shows, if it shows one
 abbrev pub leaf_shown : View MatChunk → Option Matrix
@@ -78,10 +87,11 @@ leaf_shown view.Nothing = None
 leaf_shown (view.There (Leaf m) present) = Some m
 leaf_shown (view.There content present) = None
 
--- two leaves have one side, and the terms of their sum fit
+-- two leaves have one side, of at most 64, and the terms of their sum fit
 abbrev pub LeavesFit : Option Matrix → Option Matrix → Type 0
-LeavesFit (Some m) (Some n) = (height m ≡ height n) × SumFits m n
-LeavesFit one other = Unit {0}
+LeavesFit (Some m) (Some n) = (height m ≡ height n) × (height m ≤ 64) × SumFits m n
+LeavesFit (Some m) None = Unit {0}
+LeavesFit None other = Unit {0}
 
 -- the sum of two leaves
 abbrev pub add_answer : Option Matrix → Option Matrix → Outcome MatChunk MatKind
@@ -107,7 +117,7 @@ entries_shown (view.There content present) = None
 -- some entries are a sound list for a leaf
 abbrev pub AreForLeaf : Option Entries → Type 0
 AreForLeaf None = Unit {0}
-AreForLeaf (Some entries) = AreSoundEntries entries.leaf 0 entries
+AreForLeaf (Some entries) = AreSoundEntries entries.leaf 0 false entries
 
 -- the leaf of some entries
 abbrev pub assign_answer : Option Entries → Outcome MatChunk MatKind

@@ -1,6 +1,2 @@
 pub mod Answers
-pub mod Quarters
-pub mod Sketches
-pub mod Stage
-pub mod Steps
-pub mod TestBlocks
+pub mod ByPlan

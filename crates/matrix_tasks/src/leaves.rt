@@ -2,12 +2,12 @@
 ghost use Rattle.std.specs.Prelude.{◌≡◌, IfOk, option_copied};
 ghost use Rattle.matrix_tasks.specs.Answers.{leaf_shown, LeavesFit, add_answer, LeafFits, trace_answer, entries_shown, AreForLeaf, assign_answer};
 
-use crate::entries::leaf_block;
-use crate::outcomes::{given, leaf, number};
+use crate::outcomes::{leaf, number};
 use cht_ids::Memory;
 use leaf_blocks::Leaf;
-use quad_matrix::{Entries, MatChunk, MatKind};
+use quad_matrix::{Entries, MatChunk, MatKind, leaf_block};
 use std::alloc::Global;
+use task_plans::given;
 use task_types::{Inputs, Outcome, Place, View};
 
 // The sum of two leaves, or null where it is zero.
@@ -26,6 +26,7 @@ pub(crate) fn add(
 }
 
 // The trace of a leaf, or null where it is 0.
+#[tactic(auto, using(crate::proofs::Contents::trace_small))]
 pub(crate) fn trace(
     alloc: Global,
     inputs: &Inputs<MatChunk>,
@@ -47,7 +48,7 @@ fn leaf_shown(input: &View<MatChunk>) -> Option<&Leaf>
         View::Nothing => None,
         View::There { content, .. } => match content.get() {
             MatChunk::Leaf(block) => Some(block),
-            _ => None,
+            MatChunk::Node { .. } | MatChunk::Entries(_) | MatChunk::Num(_) => None,
         },
     }
 }
@@ -74,7 +75,7 @@ pub(crate) fn entries_shown(input: &View<MatChunk>) -> Option<&Entries>
         View::Nothing => None,
         View::There { content, .. } => match content.get() {
             MatChunk::Entries(entries) => Some(entries),
-            _ => None,
+            MatChunk::Leaf(_) | MatChunk::Node { .. } | MatChunk::Num(_) => None,
         },
     }
 }

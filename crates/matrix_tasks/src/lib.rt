@@ -1,38 +1,36 @@
 //! What the tasks on matrices answer: for each kind the outcome of one execution, by the table of the plans.
 #![tactic(auto)]
 
-ghost use Rattle.std.specs.Prelude.{◌≡◌, true, IfOk};
+ghost use Rattle.std.specs.Prelude.{◌≡◌, true, IsTrue, IfOk};
 ghost use Rattle.task_types.specs.Presence.{all_present};
 ghost use Rattle.task_types.specs.Shown.{presences_in};
 ghost use Rattle.task_types.specs.Sound.{HasGoal, IsSoundFor};
 ghost use Rattle.quad_matrix.specs.Chunks.{arity_of};
 ghost use Rattle.quad_matrix.specs.Matrices.{matrices};
+ghost use Rattle.matrix_tasks.specs.Answers.{is_general};
 
-mod entries;
+mod by_plan;
 mod leaves;
 mod nodes;
 mod nulls;
 mod numbers;
 mod outcomes;
-mod plan;
-mod planned;
-mod sketch;
-#[cfg(test)]
-mod tests;
 
 use cht_ids::Memory;
 use quad_matrix::{MatChunk, MatKind, What};
 use std::alloc::Global;
+use task_plans::given;
 use task_types::{Inputs, Outcome};
 
-/// Executes one task on matrices: what is shown of its inputs may have null ones among them. The answer may be `Memory`,
-/// and then nothing has changed.
+/// Executes one task on general matrices and numbers: what is shown of its inputs may have null ones among them. The answer may be
+/// `Memory`, and then nothing has changed.
 pub fn run_general(
     alloc: Global,
     kind: MatKind,
     inputs: &Inputs<MatChunk>,
 ) -> Result<Outcome<MatChunk, MatKind>, Memory>
-    requires { HasGoal matrices kind inputs.now }
+    requires serves { IsTrue (is_general kind.what) }
+    requires defined { HasGoal matrices kind inputs.now }
     ensures { IfOk result (IsSoundFor arity_of matrices kind inputs.now) }
 {
     if let What::Join = kind.what {
@@ -40,10 +38,10 @@ pub fn run_general(
     }
     if !inputs.all_present() {
         let output = nulls::null_place(kind.what, inputs);
-        return Ok(outcomes::given(alloc, output));
+        return Ok(given(alloc, output));
     }
     if kind.height > 0 {
-        return planned::answer(alloc, kind, inputs);
+        return by_plan::answer(alloc, kind, inputs);
     }
     at_height_0(alloc, kind, inputs)
 }

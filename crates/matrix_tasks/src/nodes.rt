@@ -1,13 +1,11 @@
 // Nodes over four quadrants.
 ghost use Rattle.std.specs.Prelude.{◌≡◌, IfOk};
-ghost use Rattle.task_types.specs.Shown.{presences_in};
-ghost use Rattle.quad_matrix.specs.Plans.{are_null, input_place};
-ghost use Rattle.matrix_tasks.specs.Answers.{peak_shown, greatest_peak, join_answer};
+ghost use Rattle.matrix_tasks.specs.Answers.{peak_shown, greatest_peak, NodeFits, join_answer};
 
-use crate::outcomes::{given, one_chunk};
 use cht_ids::Memory;
 use quad_matrix::{MatChunk, MatKind};
 use std::alloc::Global;
+use task_plans::{are_null, given, input_place, one_chunk};
 use task_types::{Inputs, Outcome, Place, View};
 
 // A node of this height over the inputs that are there, or null where none is.
@@ -16,6 +14,7 @@ pub(crate) fn join(
     height: u32,
     inputs: &Inputs<MatChunk>,
 ) -> Result<Outcome<MatChunk, MatKind>, Memory>
+    requires { NodeFits height inputs.now }
     ensures { IfOk result (λ outcome. outcome ≡ join_answer height inputs.now) }
 {
     let places = [
@@ -29,24 +28,6 @@ pub(crate) fn join(
     }
     let peak = greatest_peak(inputs);
     one_chunk(alloc, MatChunk::Node { height, peak }, &places)
-}
-
-// An input, or null where it is absent.
-pub(crate) fn input_place(inputs: &Inputs<MatChunk>, i: u8) -> Place
-    ensures { result ≡ input_place (presences_in inputs.now) i }
-{
-    if inputs.is_present(i) {
-        Place::Input(i)
-    } else {
-        Place::Null
-    }
-}
-
-// Whether all places are null.
-pub(crate) fn are_null(places: &[Place]) -> bool
-    ensures { result ≡ are_null places.now }
-{
-    places.iter().all(|place| matches!(place, Place::Null))
 }
 
 // The greatest peak of the four inputs.

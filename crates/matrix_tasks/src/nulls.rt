@@ -1,11 +1,10 @@
 // Kinds with a null input.
 ghost use Rattle.std.specs.Prelude.{◌≡◌};
 ghost use Rattle.task_types.specs.Shown.{presences_in};
-ghost use Rattle.quad_matrix.specs.Plans.{other_place};
 ghost use Rattle.matrix_tasks.specs.Answers.{null_place};
 
-use crate::nodes::input_place;
 use quad_matrix::{MatChunk, What};
+use task_plans::other_place;
 use task_types::{Inputs, Place};
 
 // What is the result where an input is null: of a sum the other input, else null.
@@ -14,17 +13,6 @@ pub(crate) fn null_place(what: What, inputs: &Inputs<MatChunk>) -> Place
 {
     match what {
         What::Add | What::AddNum => other_place(inputs),
-        _ => Place::Null,
-    }
-}
-
-// Of two inputs the first that is there, else the second.
-fn other_place(inputs: &Inputs<MatChunk>) -> Place
-    ensures { result ≡ other_place (presences_in inputs.now) }
-{
-    if inputs.is_present(0) {
-        Place::Input(0)
-    } else {
-        input_place(inputs, 1)
+        What::Assign | What::Join | What::Trace => Place::Null,
     }
 }

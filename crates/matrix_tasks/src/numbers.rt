@@ -31,7 +31,7 @@ fn number_shown(input: &View<MatChunk>) -> i128
         View::Nothing => 0,
         View::There { content, .. } => match content.get() {
             MatChunk::Num(n) => *n,
-            _ => 0,
+            MatChunk::Leaf(_) | MatChunk::Node { .. } | MatChunk::Entries(_) => 0,
         },
     }
 }

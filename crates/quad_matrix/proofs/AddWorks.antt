@@ -6,13 +6,19 @@ use Rattle.task_types.specs.Tree.{Tree, Root, is_there, tree_at, child}
 use Rattle.task_types.specs.Presence.{Absent, presence_of}
 use Rattle.quad_matrix.specs.declared.chunk.MatChunk.{MatChunk}
 use Rattle.quad_matrix.specs.declared.kind.What.TheVariants.{Add, Join, Trace, AddNum}
-use Rattle.quad_matrix.specs.Goals.{kind_of}
-use Rattle.quad_matrix.specs.Plans.{Draft, no_draft, with_either, are_null, ended, Joined, Single, planned_shape, term_on, with_pair}
+use Rattle.quad_matrix.specs.declared.kind.What.{What}
+use Rattle.quad_matrix.specs.declared.kind.MatKind.{MatKind}
+use Rattle.quad_matrix.specs.Goals.{kind_of, kind_at}
+use Rattle.quad_matrix.specs.Matrices.{matrices}
+use Rattle.task_plans.specs.declared.plan.Ending.TheVariants.{Joined, Single}
+use Rattle.task_plans.specs.declared.plan.Term.{Term}
+use Rattle.task_plans.specs.Plans.{Draft, no_draft, with_either, are_null, ended, planned_shape, term_on, term_task, with_pair}
+use Rattle.quad_matrix.specs.Plans.{plan_of}
 use Rattle.quad_matrix.specs.Works.{asked, work_of, add_work, trace_work, pair_works}
-use Rattle.quad_matrix.specs.declared.plan.Term.{Term}
 use Rattle.task_types.specs.declared.outcome.Place.TheVariants.{Child}
 use Rattle.quad_matrix.proofs.Sides.{suc-sub_one}
-use Rattle.quad_matrix.proofs.DraftWorks.{total, draft_work, either_work, either_null, ended_work}
+use Rattle.task_plans.proofs.DraftWorks.{either_work, either_null, ended_work}
+use Rattle.quad_matrix.proofs.DraftWorks.{total, draft_work}
 
 -- no part is there where none of four is
 null_any : (a b c d : Bool) → ((((true && not a) && not b) && not c) && not d) ≡ not (a || b || c || d)
@@ -40,9 +46,9 @@ sum_of_five k l m n o =
     ∙ ap (λ x. x + sum m) (sum-append k l)))
 
 -- the four parts of a sum, where children of two inputs are there or not
-abbrev parts_of : ℕ → Bool → Bool → Bool → Bool → Bool → Bool → Bool → Bool → Draft
+abbrev parts_of : ℕ → Bool → Bool → Bool → Bool → Bool → Bool → Bool → Bool → Draft MatKind
 parts_of low a b c d p q r s =
-    with_either low (with_either low (with_either low (with_either low no_draft Add 0 a p) Add 1 b q) Add 2 c r) Add 3 d s
+    with_either (with_either (with_either (with_either no_draft (kind_of Add low) 0 a p) (kind_of Add low) 1 b q) (kind_of Add low) 2 c r) (kind_of Add low) 3 d s
 
 module _ (trees chunks : List (Tree MatChunk)) (low : ℕ) where
   -- the work of the sum of two children
@@ -51,30 +57,30 @@ module _ (trees chunks : List (Tree MatChunk)) (low : ℕ) where
 
   parts_work : (a b c d p q r s : Bool) → draft_work trees chunks (parts_of low a b c d p q r s) ≡ sum (asked (a && p) (child_work 0)) + sum (asked (b && q) (child_work 1)) + sum (asked (c && r) (child_work 2)) + sum (asked (d && s) (child_work 3))
   parts_work a b c d p q r s =
-      let d1 = with_either low no_draft Add 0 a p in
-      let d2 = with_either low d1 Add 1 b q in
-      let d3 = with_either low d2 Add 2 c r in
-      omega (arith, either_work trees chunks low no_draft Add 0 a p, either_work trees chunks low d1 Add 1 b q, either_work trees chunks low d2 Add 2 c r, either_work trees chunks low d3 Add 3 d s)
+      let d1 : Draft MatKind = with_either no_draft (kind_of Add low) 0 a p in
+      let d2 = with_either d1 (kind_of Add low) 1 b q in
+      let d3 = with_either d2 (kind_of Add low) 2 c r in
+      omega (arith, either_work matrices trees chunks no_draft (kind_of Add low) 0 a p, either_work matrices trees chunks d1 (kind_of Add low) 1 b q, either_work matrices trees chunks d2 (kind_of Add low) 2 c r, either_work matrices trees chunks d3 (kind_of Add low) 3 d s)
 
   parts_null : (a b c d p q r s : Bool) → are_null (parts_of low a b c d p q r s).places ≡ not ((a || p) || (b || q) || (c || r) || (d || s))
   parts_null a b c d p q r s =
-      let d1 = with_either low no_draft Add 0 a p in
-      let d2 = with_either low d1 Add 1 b q in
-      let d3 = with_either low d2 Add 2 c r in
-      either_null low d3 Add 3 d s
-      ∙ ap (λ t. t && not (d || s)) (either_null low d2 Add 2 c r
-      ∙ ap (λ t. t && not (c || r)) (either_null low d1 Add 1 b q
-      ∙ ap (λ t. t && not (b || q)) (either_null low no_draft Add 0 a p)))
+      let d1 : Draft MatKind = with_either no_draft (kind_of Add low) 0 a p in
+      let d2 = with_either d1 (kind_of Add low) 1 b q in
+      let d3 = with_either d2 (kind_of Add low) 2 c r in
+      either_null d3 (kind_of Add low) 3 d s
+      ∙ ap (λ t. t && not (d || s)) (either_null d2 (kind_of Add low) 2 c r
+      ∙ ap (λ t. t && not (c || r)) (either_null d1 (kind_of Add low) 1 b q
+      ∙ ap (λ t. t && not (b || q)) (either_null no_draft (kind_of Add low) 0 a p)))
       ∙ null_any (a || p) (b || q) (c || r) (d || s)
 
   -- the works of the four parts and of their join
-  add_total : (height : ℕ) (a b c d p q r s : Bool) → total trees chunks (ended height (Joined Join) (parts_of low a b c d p q r s)) ≡ sum (asked (a && p) (child_work 0) ++ asked (b && q) (child_work 1) ++ asked (c && r) (child_work 2) ++ asked (d && s) (child_work 3) ++ asked ((a || p) || (b || q) || (c || r) || (d || s)) 1)
+  add_total : (height : ℕ) (a b c d p q r s : Bool) → total trees chunks (ended (kind_at height) (Joined Join) (parts_of low a b c d p q r s)) ≡ sum (asked (a && p) (child_work 0) ++ asked (b && q) (child_work 1) ++ asked (c && r) (child_work 2) ++ asked (d && s) (child_work 3) ++ asked ((a || p) || (b || q) || (c || r) || (d || s)) 1)
   add_total height a b c d p q r s =
       let any = (a || p) || (b || q) || (c || r) || (d || s) in
       let all = draft_work trees chunks (parts_of low a b c d p q r s) in
       let sums = sum_of_five (asked (a && p) (child_work 0)) (asked (b && q) (child_work 1)) (asked (c && r) (child_work 2)) (asked (d && s) (child_work 3)) (asked any 1) in
       let parts = parts_work a b c d p q r s in
-      ended_work trees chunks height (parts_of low a b c d p q r s)
+      ended_work matrices trees chunks (kind_at height) Join (parts_of low a b c d p q r s) (λ inputs. refl)
       ∙ ap (λ test. cond test 0 (all + 1)) (parts_null a b c d p q r s)
       ∙ ⊎_elim
       (λ (there : any ≡ true).
@@ -93,11 +99,11 @@ module _ (trees chunks : List (Tree MatChunk)) (low : ℕ) where
       (cases_Bool any)
 
 -- the work of a sum of two trees that are there is one more than the works of its tasks
-pub add_works : (h : ℕ) (k l : MatChunk) (a b c d p q r s : Tree MatChunk) (chunks : List (Tree MatChunk)) → add_work (suc h) (Root k a b c d) (Root l p q r s) ≡ 1 + total (Root k a b c d ∷ Root l p q r s ∷ []) chunks (planned_shape Add (suc h) (presence_of (Root k a b c d) ∷ presence_of (Root l p q r s) ∷ []) Absent)
+pub add_works : (h : ℕ) (k l : MatChunk) (a b c d p q r s : Tree MatChunk) (chunks : List (Tree MatChunk)) → add_work (suc h) (Root k a b c d) (Root l p q r s) ≡ 1 + total (Root k a b c d ∷ Root l p q r s ∷ []) chunks (planned_shape kind_at (suc h) (plan_of Add) (presence_of (Root k a b c d) ∷ presence_of (Root l p q r s) ∷ []) Absent)
 add_works h k l a b c d p q r s chunks =
     let trees = Root k a b c d ∷ Root l p q r s ∷ [] in
     ap (λ n. 1 + n)
-    (sym (ap (λ low. total trees chunks (ended (suc h) (Joined Join) (parts_of low (is_there a) (is_there b) (is_there c) (is_there d) (is_there p) (is_there q) (is_there r) (is_there s)))) (suc-sub_one h)
+    (sym (ap (λ low. total trees chunks (ended (kind_at (suc h)) (Joined Join) (parts_of low (is_there a) (is_there b) (is_there c) (is_there d) (is_there p) (is_there q) (is_there r) (is_there s)))) (suc-sub_one h)
     ∙ add_total trees chunks h (suc h) (is_there a) (is_there b) (is_there c) (is_there d) (is_there p) (is_there q) (is_there r) (is_there s)))
 
 -- ---- Traces
@@ -108,24 +114,24 @@ and-true true = refl
 and-true false = refl
 
 -- the traces of the diagonal children
-abbrev upper_term : Term
+abbrev upper_term : Term What
 upper_term = term_on Trace (Child 0 0 ∷ [])
 
-abbrev lower_term : Term
+abbrev lower_term : Term What
 lower_term = term_on Trace (Child 0 3 ∷ [])
 
 -- the works of the one part of a trace
-trace_total : (trees chunks : List (Tree MatChunk)) (low height : ℕ) (a d : Bool) → total trees chunks (ended height Single (with_pair low no_draft upper_term lower_term AddNum a d)) ≡ sum (pair_works a d (work_of (kind_of Trace low) (child (tree_at trees 0) 0 ∷ [])) (work_of (kind_of Trace low) (child (tree_at trees 0) 3 ∷ [])))
+trace_total : (trees chunks : List (Tree MatChunk)) (low height : ℕ) (a d : Bool) → total trees chunks (ended (kind_at height) Single (with_pair no_draft (term_task (kind_at low) upper_term) (term_task (kind_at low) lower_term) (kind_at low AddNum) a d)) ≡ sum (pair_works a d (work_of (kind_of Trace low) (child (tree_at trees 0) 0 ∷ [])) (work_of (kind_of Trace low) (child (tree_at trees 0) 3 ∷ [])))
 trace_total trees chunks low height false false = refl
 trace_total trees chunks low height true false = refl
 trace_total trees chunks low height false true = refl
 trace_total trees chunks low height true true = refl
 
 -- the work of a trace of a tree that is there is one more than the works of its tasks
-pub trace_works : (h : ℕ) (k : MatChunk) (a b c d : Tree MatChunk) (chunks : List (Tree MatChunk)) → trace_work (suc h) (Root k a b c d) ≡ 1 + total (Root k a b c d ∷ []) chunks (planned_shape Trace (suc h) (presence_of (Root k a b c d) ∷ []) Absent)
+pub trace_works : (h : ℕ) (k : MatChunk) (a b c d : Tree MatChunk) (chunks : List (Tree MatChunk)) → trace_work (suc h) (Root k a b c d) ≡ 1 + total (Root k a b c d ∷ []) chunks (planned_shape kind_at (suc h) (plan_of Trace) (presence_of (Root k a b c d) ∷ []) Absent)
 trace_works h k a b c d chunks =
     let trees = Root k a b c d ∷ [] in
     ap (λ n. 1 + n)
-    (sym (ap (λ low. total trees chunks (ended (suc h) Single (with_pair low no_draft upper_term lower_term AddNum (is_there a && true) (is_there d && true)))) (suc-sub_one h)
-    ∙ ap₂ (λ u v. total trees chunks (ended (suc h) Single (with_pair h no_draft upper_term lower_term AddNum u v))) (and-true (is_there a)) (and-true (is_there d))
+    (sym (ap (λ low. total trees chunks (ended (kind_at (suc h)) Single (with_pair no_draft (term_task (kind_at low) upper_term) (term_task (kind_at low) lower_term) (kind_at low AddNum) (is_there a && true) (is_there d && true)))) (suc-sub_one h)
+    ∙ ap₂ (λ u v. total trees chunks (ended (kind_at (suc h)) Single (with_pair no_draft (term_task (kind_at h) upper_term) (term_task (kind_at h) lower_term) (kind_at h AddNum) u v))) (and-true (is_there a)) (and-true (is_there d))
     ∙ trace_total trees chunks h (suc h) (is_there a) (is_there d)))

@@ -7,16 +7,17 @@ use Rattle.task_types.specs.Shown.{bit}
 use Rattle.quad_matrix.specs.declared.chunk.MatChunk.{MatChunk}
 use Rattle.quad_matrix.specs.declared.kind.What.TheVariants.{Assign, Join}
 use Rattle.quad_matrix.specs.declared.kind.MatKind.{MatKind}
-use Rattle.quad_matrix.specs.Goals.{kind_of, goal_of}
-use Rattle.quad_matrix.specs.Plans.{no_draft, with_portion, ended, Joined}
+use Rattle.quad_matrix.specs.Goals.{kind_of, kind_at, goal_of}
+use Rattle.task_plans.specs.declared.plan.Ending.TheVariants.{Joined}
+use Rattle.task_plans.specs.Plans.{no_draft, with_portion, ended}
 use Rattle.quad_matrix.specs.Works.{asked}
 use Rattle.quad_matrix.proofs.DraftWorks.{calls_of}
 
 -- the shape where entries lie in some quadrants
 abbrev pub assign_shape : ℕ → ℕ → Bool → Bool → Bool → Bool → Shape MatKind
 assign_shape low height a b c d =
-    ended height (Joined Join)
-    (with_portion low (with_portion low (with_portion low (with_portion low no_draft Assign a) Assign b) Assign c) Assign d)
+    ended (kind_at height) (Joined Join)
+    (with_portion (with_portion (with_portion (with_portion no_draft (kind_of Assign low) a) (kind_of Assign low) b) (kind_of Assign low) c) (kind_of Assign low) d)
 
 -- the tree of a part: the goal of an assignment of its entries, or nothing
 abbrev pub part_tree : ℕ → Bool → Tree MatChunk → Tree MatChunk

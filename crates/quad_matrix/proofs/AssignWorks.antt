@@ -19,7 +19,7 @@ use Rattle.quad_matrix.specs.declared.chunk.MatChunk.TheVariants.{Node}
 use Rattle.quad_matrix.specs.declared.kind.What.TheVariants.{Assign, Join}
 use Rattle.quad_matrix.specs.declared.kind.MatKind.{MatKind}
 use Rattle.quad_matrix.specs.Chunks.{arity_of}
-use Rattle.quad_matrix.specs.Spots.{side_of}
+use Rattle.chunk_codec.specs.Spots.{side_of}
 use Rattle.quad_matrix.specs.Blocks.{block_of, canonical, upper_left, upper_right, lower_left, lower_right}
 use Rattle.quad_matrix.specs.Goals.{kind_of, goal_of, IsList, IsDefined}
 use Rattle.quad_matrix.specs.Works.{asked, has_number, assign_work, work_of}
@@ -50,7 +50,7 @@ listed_work b h m k x y z w whole tall wide same d =
     let some : peak_of n ≡ 0 → ⊥ = list_some d.leaf h k x y z w d.fits in
     let back : canonical d.leaf h n ≡ canonical b h m = sym (same ∙ goal_any d.leaf Assign h (t ∷ []) d.fits) in
     let leaf : d.leaf ≡ b = canonical_leaf_same d.leaf b h n m sized.whole sized.tall sized.wide whole tall wide some back in
-    let list : IsList b h t = subst (λ c. IsList c h t) leaf d.fits in
+    let list : IsList b h false t = subst (λ c. IsList c h false t) leaf d.fits in
     let sized_b = block_of_list b h t list in
     let here : canonical b h m ≡ canonical b h (block_of b h t) = sym (subst (λ c. canonical c h (block_of c h t) ≡ canonical b h m) leaf back) in
     let one : m ≡ block_of b h t = canonical_injective b h m (block_of b h t) whole tall wide sized_b.whole sized_b.tall sized_b.wide here in
@@ -118,7 +118,7 @@ works_same k l m n o k' l' m' n' o' ek el em en eo =
 -- ---- The whole
 
 -- An assignment at height h + 1 of a sound list, with leaves of side b, by an outcome that has this shape.
-module _ (b h : ℕ) (k : MatChunk) (x y z w : Tree MatChunk) (list : IsList b (suc h) (Root k x y z w)) (outcome : Outcome MatChunk MatKind) (sound : IsSound arity_of matrices (kind_of Assign (suc h)) (Root k x y z w ∷ []) outcome) (p q r s : Bool) (shape : shape_of outcome ≡ assign_shape h (suc h) p q r s) where
+module _ (b h : ℕ) (k : MatChunk) (x y z w : Tree MatChunk) (list : IsList b (suc h) false (Root k x y z w)) (outcome : Outcome MatChunk MatKind) (sound : IsSound arity_of matrices (kind_of Assign (suc h)) (Root k x y z w ∷ []) outcome) (p q r s : Bool) (shape : shape_of outcome ≡ assign_shape h (suc h) p q r s) where
   abbrev trees : List (Tree MatChunk)
   trees = Root k x y z w ∷ []
 

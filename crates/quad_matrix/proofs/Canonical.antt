@@ -10,7 +10,7 @@ use Rattle.leaf_blocks.specs.Block.{IsBlock}
 use Rattle.task_types.specs.Tree.{Tree, Nothing, Root, is_there}
 use Rattle.quad_matrix.specs.declared.chunk.MatChunk.{MatChunk}
 use Rattle.quad_matrix.specs.declared.chunk.MatChunk.TheVariants.{Leaf, Node}
-use Rattle.quad_matrix.specs.Spots.{side_of}
+use Rattle.chunk_codec.specs.Spots.{side_of}
 use Rattle.quad_matrix.specs.Blocks.{block_of, alone, canonical, IsCanonical, upper_left, upper_right, lower_left, lower_right}
 use Rattle.quad_matrix.proofs.Sides.{side_twice, suc-sub_one}
 

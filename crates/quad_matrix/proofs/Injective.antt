@@ -3,7 +3,7 @@ use Rattle.std.proofs.Common.{◌≡◌, ℕ, sym, ap, ◌∙◌}
 use Rattle.std.proofs.lemmas.Bool.{true≢false}
 use Rattle.dense_def.specs.Matrix.{Matrix, height, IsMatrix, peak_of}
 use Rattle.task_types.specs.Tree.{Nothing, is_there}
-use Rattle.quad_matrix.specs.Spots.{side_of}
+use Rattle.chunk_codec.specs.Spots.{side_of}
 use Rattle.quad_matrix.specs.Blocks.{block_of, canonical, leaf_of}
 use Rattle.quad_matrix.proofs.Canonical.{canonical_zero, block_of_canonical, is_there_some}
 use Rattle.quad_matrix.proofs.Leaves.{leaf_of_full}

@@ -1,5 +1,5 @@
 -- The laws that the library of matrices keeps.
-use Rattle.std.proofs.Common.{◌≡◌, ℕ, zero, suc, ◌+◌, ◌≤◌, Bool, false, cond, not, ◌&&◌, ◌==◌, ◌<◌, List, [], ◌∷◌, ◌++◌, length, map, sum, inl, inr, refl, sym, ap, ◌∙◌, lit≤, eq-eqb}
+use Rattle.std.proofs.Common.{◌≡◌, ℕ, zero, suc, ◌+◌, ◌≤◌, Bool, false, cond, not, ◌&&◌, ◌==◌, ◌<◌, List, [], ◌∷◌, ◌++◌, length, map, sum, inl, inr, refl, sym, ap, ◌∙◌, lit≤, eq-eqb, arith}
 use Rattle.std.proofs.lemmas.Bool.{cond_both}
 use Rattle.dense_def.specs.Matrix.{block, zeros, peak_of}
 use Rattle.dense_def.proofs.Blocks.{height-block, entry-block}
@@ -17,16 +17,18 @@ use Rattle.quad_matrix.specs.declared.kind.What.{What}
 use Rattle.quad_matrix.specs.declared.kind.What.TheVariants.{Assign, Add, Join, Trace, AddNum}
 use Rattle.quad_matrix.specs.declared.kind.MatKind.{MatKind}
 use Rattle.quad_matrix.specs.Chunks.{arity_of}
-use Rattle.quad_matrix.specs.Spots.{side_of}
+use Rattle.chunk_codec.specs.Spots.{side_of}
 use Rattle.quad_matrix.specs.Blocks.{block_of, upper_left, upper_right, lower_left, lower_right}
-use Rattle.quad_matrix.specs.Goals.{kind_of, FitsAt, IsList}
-use Rattle.quad_matrix.specs.Plans.{planned_shape, choices, given_shape, joined_shape, join_places, are_null, chunk_shape, null_shape, shapes_of, full_shapes, inputs_of, may_have}
+use Rattle.quad_matrix.specs.Goals.{kind_of, kind_at, FitsAt, IsList}
+use Rattle.task_plans.specs.Plans.{planned_shape, choices, given_shape, are_null, chunk_shape}
+use Rattle.quad_matrix.specs.Plans.{plan_of, joined_shape, join_places, null_shape, shapes_of, full_shapes, inputs_of, may_have}
 use Rattle.quad_matrix.specs.Works.{asked, has_number, assign_work, add_work, trace_work, work_at}
 use Rattle.quad_matrix.specs.Matrices.{matrices}
 use Rattle.quad_matrix.proofs.Sides.{suc-sub_one}
 use Rattle.quad_matrix.proofs.Canonical.{peak-zeros}
 use Rattle.quad_matrix.proofs.Leaves.{leaf_of_list}
-use Rattle.quad_matrix.proofs.DraftWorks.{total, one_of_cond, one_of_one, one_of_same, one_of_choices}
+use Rattle.task_plans.proofs.DraftWorks.{one_of_cond, one_of_one, one_of_same, one_of_choices}
+use Rattle.quad_matrix.proofs.DraftWorks.{total}
 use Rattle.quad_matrix.proofs.AddWorks.{add_works, trace_works}
 use Rattle.quad_matrix.proofs.AssignParts.{assign_shape}
 use Rattle.quad_matrix.proofs.AssignWorks.{assign_work_is}
@@ -129,7 +131,7 @@ low_tasks trees chunks shape (inr (inr e)) = absurd e
 -- ---- The works of all kinds
 
 -- the work of an assignment
-assign_adds_up : (b h : ℕ) (x : Tree MatChunk) (outcome : Outcome MatChunk MatKind) → IsList b h x → IsSound arity_of matrices (kind_of Assign h) (x ∷ []) outcome → work_at Assign h (x ∷ []) ≡ 1 + new_work matrices (x ∷ []) outcome
+assign_adds_up : (b h : ℕ) (x : Tree MatChunk) (outcome : Outcome MatChunk MatKind) → IsList b h false x → IsSound arity_of matrices (kind_of Assign h) (x ∷ []) outcome → work_at Assign h (x ∷ []) ≡ 1 + new_work matrices (x ∷ []) outcome
 assign_adds_up b h Nothing outcome list sound =
     assign_work_nothing 0 h
     ∙ no_tasks (Nothing ∷ []) (new_trees (Nothing ∷ []) outcome) (shape_of outcome) (given_shape Null) refl
@@ -140,7 +142,7 @@ assign_adds_up b zero (Root k x y z w) outcome list sound =
 assign_adds_up b (suc h) (Root k x y z w) outcome list sound =
     let t = Root k x y z w in
     let known = presence_of t ∷ [] in
-    let choice = one_of_choices (planned_shape Assign (suc h) known) (shape_of outcome) choices (in_plan Assign (suc h) known (shape_of outcome) sound.planned) in
+    let choice = one_of_choices (planned_shape kind_at (suc h) (plan_of Assign) known) (shape_of outcome) choices (in_plan Assign (suc h) known (shape_of outcome) sound.planned) in
     let p = has_child choice.0 0 in
     let q = has_child choice.0 1 in
     let r = has_child choice.0 2 in
@@ -168,8 +170,8 @@ works_at b Add zero (Root k x y z w ∷ Root l p q r s ∷ []) chunks shape fits
     low_tasks (Root k x y z w ∷ Root l p q r s ∷ []) chunks shape e
 works_at b Add (suc h) (Root k x y z w ∷ Root l p q r s ∷ []) chunks shape fits other e =
     let known = presence_of (Root k x y z w) ∷ presence_of (Root l p q r s) ∷ [] in
-    same_work (Root k x y z w ∷ Root l p q r s ∷ []) chunks shape (planned_shape Add (suc h) known Absent) (add_work (suc h) (Root k x y z w) (Root l p q r s))
-    (add_works h k l x y z w p q r s chunks) (one_of_one shape (planned_shape Add (suc h) known Absent) e)
+    same_work (Root k x y z w ∷ Root l p q r s ∷ []) chunks shape (planned_shape kind_at (suc h) (plan_of Add) known Absent) (add_work (suc h) (Root k x y z w) (Root l p q r s))
+    (add_works h k l x y z w p q r s chunks) (one_of_one shape (planned_shape kind_at (suc h) (plan_of Add) known Absent) e)
 works_at b Add h [] chunks shape fits other e = absurd fits
 works_at b Add h (x ∷ []) chunks shape fits other e = absurd fits
 works_at b Add h (x ∷ y ∷ z ∷ trees) chunks shape fits other e = absurd fits
@@ -187,8 +189,8 @@ works_at b Trace h (Nothing ∷ []) chunks shape fits other e =
 works_at b Trace zero (Root k x y z w ∷ []) chunks shape fits other e = low_tasks (Root k x y z w ∷ []) chunks shape e
 works_at b Trace (suc h) (Root k x y z w ∷ []) chunks shape fits other e =
     let known = presence_of (Root k x y z w) ∷ [] in
-    same_work (Root k x y z w ∷ []) chunks shape (planned_shape Trace (suc h) known Absent) (trace_work (suc h) (Root k x y z w))
-    (trace_works h k x y z w chunks) (one_of_one shape (planned_shape Trace (suc h) known Absent) e)
+    same_work (Root k x y z w ∷ []) chunks shape (planned_shape kind_at (suc h) (plan_of Trace) known Absent) (trace_work (suc h) (Root k x y z w))
+    (trace_works h k x y z w chunks) (one_of_one shape (planned_shape kind_at (suc h) (plan_of Trace) known Absent) e)
 works_at b Trace h [] chunks shape fits other e = absurd fits
 works_at b Trace h (x ∷ y ∷ trees) chunks shape fits other e = absurd fits
 works_at b AddNum h (Nothing ∷ Nothing ∷ []) chunks shape fits other e =
@@ -199,7 +201,7 @@ works_at b AddNum h (Root k x y z w ∷ Nothing ∷ []) chunks shape fits other 
     no_tasks (Root k x y z w ∷ Nothing ∷ []) chunks shape (given_shape (Input 0)) refl (one_of_one shape (given_shape (Input 0)) e)
 works_at b AddNum zero (Root k x y z w ∷ Root l p q r s ∷ []) chunks shape fits other e =
     low_tasks (Root k x y z w ∷ Root l p q r s ∷ []) chunks shape e
-works_at b AddNum (suc h) (Root k x y z w ∷ Root l p q r s ∷ []) chunks shape fits other e = absurd e
+works_at b AddNum (suc h) (Root k x y z w ∷ Root l p q r s ∷ []) chunks shape fits other e = absurd (omega (arith, fits.0))
 works_at b AddNum h [] chunks shape fits other e = absurd fits
 works_at b AddNum h (x ∷ []) chunks shape fits other e = absurd fits
 works_at b AddNum h (x ∷ y ∷ z ∷ trees) chunks shape fits other e = absurd fits

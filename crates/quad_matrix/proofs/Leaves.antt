@@ -1,5 +1,5 @@
 -- The side of the leaves of trees.
-use Rattle.std.proofs.Common.{◌≡◌, ℕ, zero, suc, ◌<◌, ◌≤◌, max, true, ◌==◌, unsigned_abs, refl, sym, ap, ◌∙◌, arith, ⊎_elim, pos_of_ne-zero, le_of_eq, ◌⊎◌, inl, inr, List, [], ◌∷◌}
+use Rattle.std.proofs.Common.{◌≡◌, ℕ, zero, suc, ◌<◌, ◌≤◌, max, true, false, ◌==◌, unsigned_abs, refl, sym, ap, ◌∙◌, arith, ⊎_elim, pos_of_ne-zero, le_of_eq, ◌⊎◌, inl, inr, List, [], ◌∷◌}
 use Rattle.std.specs.List.{AllByRecursion}
 use Rattle.std.proofs.lemmas.Bool.{cases_eq, cases_lt, true≢false, cond_both}
 use Rattle.dense_def.specs.Matrix.{Matrix, height, IsMatrix, joined, peak_of}
@@ -8,7 +8,7 @@ use Rattle.dense_def.proofs.Peaks.{peak-joined}
 use Rattle.task_types.specs.Tree.{Tree, Nothing, Root, is_there}
 use Rattle.quad_matrix.specs.declared.chunk.MatChunk.{MatChunk}
 use Rattle.quad_matrix.specs.declared.chunk.MatChunk.TheVariants.{Leaf, Node, Entries, Num}
-use Rattle.quad_matrix.specs.Spots.{side_of}
+use Rattle.chunk_codec.specs.Spots.{side_of}
 use Rattle.quad_matrix.specs.Blocks.{block_of, number_of, alone, canonical, IsCanonical, IsNumber, leaf_of, leaf_in, upper_left, upper_right, lower_left, lower_right}
 use Rattle.quad_matrix.specs.Goals.{IsList}
 use Rattle.quad_matrix.proofs.Sides.{side_low, side_twice}
@@ -93,7 +93,7 @@ leaf_in_canonical b h (Root c x y z w ∷ trees) all =
     inl same
 
 -- the leaves of a sound list
-pub leaf_of_list : (b h : ℕ) (t : Tree MatChunk) → IsList b h t → is_there t ≡ true → leaf_of t ≡ b
+pub leaf_of_list : (b h : ℕ) (t : Tree MatChunk) → IsList b h false t → is_there t ≡ true → leaf_of t ≡ b
 leaf_of_list b h Nothing is there = absurd (true≢false (sym there))
 leaf_of_list b h (Root (Entries entries) x y z w) is there = is.0.leaf
 leaf_of_list b h (Root (Leaf m) x y z w) is there = absurd is

@@ -15,3 +15,9 @@ pub mod AddWorks
 pub mod AssignParts
 pub mod AssignWorks
 pub mod Laws
+pub mod QuadrantSides
+pub mod Order
+pub mod PartBlocks
+pub mod Written
+pub mod ListParts
+pub mod ForOthers

@@ -1,5 +1,5 @@
 -- The blocks of sound lists of entries, and the goals of all kinds.
-use Rattle.std.proofs.Common.{◌≡◌, ℕ, ◌^◌, ◌<◌, ◌≤◌, List, [], ◌∷◌, length, All, ◌==◌, pos, unsigned_abs, refl, sym, ◌∙◌, arith, le_trans, eq-eqb}
+use Rattle.std.proofs.Common.{◌≡◌, ℕ, ◌^◌, ◌<◌, ◌≤◌, false, List, [], ◌∷◌, length, All, ◌==◌, pos, unsigned_abs, refl, sym, ◌∙◌, subst, arith, le_trans, eq-eqb}
 use Rattle.std.proofs.lemmas.Bool.{cond_both, cond-true, and_from}
 use Rattle.std.proofs.lemmas.List.Elements.{All-head, All-tail}
 use Rattle.dense_def.specs.Matrix.{height, entry, IsMatrix, peak_of}
@@ -7,13 +7,14 @@ use Rattle.dense_def.proofs.Entries.{IsMatrix-made, height-made, entry_made}
 use Rattle.dense_def.proofs.Peaks.{entry_le_peak}
 use Rattle.leaf_blocks.specs.Block.{IsBlock}
 use Rattle.task_types.specs.Tree.{Tree, Nothing, Root}
-use Rattle.quad_matrix.specs.declared.chunk.Spot.{Spot}
+use Rattle.chunk_codec.specs.declared.plain.Spot.{Spot}
 use Rattle.quad_matrix.specs.declared.chunk.Entries.{Entries}
 use Rattle.quad_matrix.specs.declared.chunk.MatChunk.{MatChunk}
 use Rattle.quad_matrix.specs.declared.chunk.MatChunk.TheVariants as chunk
 use Rattle.quad_matrix.specs.declared.kind.What.{What}
 use Rattle.quad_matrix.specs.declared.kind.What.TheVariants.{Assign, Add, Join, Trace, AddNum}
-use Rattle.quad_matrix.specs.Spots.{side_of, is_at, spot_value, block_of_spots, IsSpot, AreSoundEntries}
+use Rattle.chunk_codec.specs.Spots.{side_of, IsSpot}
+use Rattle.quad_matrix.specs.Spots.{is_at, spot_value, block_of_spots, block_listed, AreSoundEntries}
 use Rattle.quad_matrix.specs.Blocks.{block_of, IsCanonical, IsNumber}
 use Rattle.quad_matrix.specs.Goals.{IsList, FitsAt, goal_at}
 use Rattle.quad_matrix.proofs.Canonical.{canonical_of_block, nothing_is_canonical}
@@ -41,15 +42,15 @@ pub entry-spots : (side : ℕ) (spots : List Spot) (i j : ℕ) → i < side → 
 entry-spots side spots i j p q = entry_made side side (λ k l. spot_value spots k l) i j p q
 
 -- the block of a sound list is a block
-pub block_of_sound : (b h : ℕ) (entries : Entries) → AreSoundEntries b h entries → IsBlock (side_of b h) (block_of_spots (side_of b h) entries.list)
+pub block_of_sound : (b h : ℕ) (entries : Entries) → AreSoundEntries b h false entries → IsBlock (side_of b h) (block_listed entries.symmetric (side_of b h) entries.list)
 block_of_sound b h entries sound =
     let side = side_of b h in
-    record {
+    subst (λ mirrored. IsBlock side (block_listed mirrored side entries.list)) (sym sound.symmetric) (record {
       whole = spots_whole side entries.list;
       tall = spots_tall side entries.list;
       wide = refl;
-      small = λ i j p q. rw entry-spots (le_trans (spot_value_small side entries.list i j sound.spots) (omega arith));
-    }
+      small = λ i j p q. rw entry-spots (le_trans (spot_value_small side entries.list i j sound.listed.spots) (omega arith));
+    })
 
 -- the block of some entries of which there is one is not zero
 spots_not_flat : (side : ℕ) (spots : List Spot) → 1 ≤ length spots → All (IsSpot side) spots → peak_of (block_of_spots side spots) ≡ 0 → ⊥
@@ -67,11 +68,13 @@ spots_not_flat side (spot ∷ spots) some all flat =
     first.value none
 
 -- the block of a sound list is not zero
-pub sound_some : (b h : ℕ) (entries : Entries) → AreSoundEntries b h entries → peak_of (block_of_spots (side_of b h) entries.list) ≡ 0 → ⊥
-sound_some b h entries sound = spots_not_flat (side_of b h) entries.list sound.some sound.spots
+pub sound_some : (b h : ℕ) (entries : Entries) → AreSoundEntries b h false entries → peak_of (block_listed entries.symmetric (side_of b h) entries.list) ≡ 0 → ⊥
+sound_some b h entries sound =
+    subst (λ mirrored. peak_of (block_listed mirrored (side_of b h) entries.list) ≡ 0 → ⊥) (sym sound.symmetric)
+    (spots_not_flat (side_of b h) entries.list sound.listed.some sound.listed.spots)
 
 -- nothing, or a sound list, stands for a block
-pub block_of_list : (b h : ℕ) (x : Tree MatChunk) → IsList b h x → IsBlock (side_of b h) (block_of b h x)
+pub block_of_list : (b h : ℕ) (x : Tree MatChunk) → IsList b h false x → IsBlock (side_of b h) (block_of b h x)
 block_of_list b h Nothing is = (nothing_is_canonical b h).sized
 block_of_list b h (Root (chunk.Entries entries) x y z w) is = block_of_sound b h entries is.0
 block_of_list b h (Root (chunk.Leaf m) x y z w) is = absurd is
@@ -79,7 +82,7 @@ block_of_list b h (Root (chunk.Node k peak) x y z w) is = absurd is
 block_of_list b h (Root (chunk.Num n) x y z w) is = absurd is
 
 -- a list that is there stands for a block other than zero
-pub list_some : (b h : ℕ) (c : MatChunk) (x y z w : Tree MatChunk) → IsList b h (Root c x y z w) → peak_of (block_of b h (Root c x y z w)) ≡ 0 → ⊥
+pub list_some : (b h : ℕ) (c : MatChunk) (x y z w : Tree MatChunk) → IsList b h false (Root c x y z w) → peak_of (block_of b h (Root c x y z w)) ≡ 0 → ⊥
 list_some b h (chunk.Entries entries) x y z w is flat = sound_some b h entries is.0 flat
 list_some b h (chunk.Leaf m) x y z w is flat = is
 list_some b h (chunk.Node k peak) x y z w is flat = is
@@ -95,7 +98,9 @@ assign_canonical b h x fits = canonical_of_block b h (block_of b h x) (block_of_
 abbrev pub IsOutput : ℕ → What → ℕ → Tree MatChunk → Type 0
 IsOutput b Trace h tree = IsNumber tree
 IsOutput b AddNum h tree = IsNumber tree
-IsOutput b what h tree = IsCanonical b h tree
+IsOutput b Assign h tree = IsCanonical b h tree
+IsOutput b Add h tree = IsCanonical b h tree
+IsOutput b Join h tree = IsCanonical b h tree
 
 -- the goal of a kind is such a tree
 pub goal_is_canonical : (b : ℕ) (what : What) (h : ℕ) (trees : List (Tree MatChunk)) → FitsAt b what h trees → IsOutput b what h (goal_at b what h trees)

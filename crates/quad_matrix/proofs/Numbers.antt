@@ -12,7 +12,7 @@ use Rattle.task_types.specs.Tree.{Tree, Nothing, Root, child}
 use Rattle.quad_matrix.specs.declared.chunk.MatChunk.{MatChunk}
 use Rattle.quad_matrix.specs.declared.chunk.MatChunk.TheVariants.{Num}
 use Rattle.quad_matrix.specs.declared.kind.What.TheVariants.{Trace, AddNum}
-use Rattle.quad_matrix.specs.Spots.{side_of}
+use Rattle.chunk_codec.specs.Spots.{side_of}
 use Rattle.quad_matrix.specs.Blocks.{block_of, number_of, alone, number_tree, IsNumber}
 use Rattle.quad_matrix.specs.Goals.{goal_at, FitsAt}
 use Rattle.quad_matrix.proofs.Quadrants.{child_canonical, block_of_quadrants, squares_fit}

@@ -9,7 +9,7 @@ use Rattle.leaf_blocks.specs.Block.{IsBlock}
 use Rattle.task_types.specs.Tree.{Tree, Nothing, Root, is_there, child}
 use Rattle.quad_matrix.specs.declared.chunk.MatChunk.{MatChunk}
 use Rattle.quad_matrix.specs.declared.chunk.MatChunk.TheVariants.{Node}
-use Rattle.quad_matrix.specs.Spots.{side_of}
+use Rattle.chunk_codec.specs.Spots.{side_of}
 use Rattle.quad_matrix.specs.Blocks.{block_of, canonical, IsCanonical, upper_left, upper_right, lower_left, lower_right}
 use Rattle.quad_matrix.proofs.Sides.{side_twice, suc-sub_one}
 use Rattle.quad_matrix.proofs.Canonical.{canonical_zero, canonical_node, node_of, canonical_of_block, nothing_is_canonical, peak-zeros}

@@ -6,7 +6,7 @@ use Rattle.task_types.specs.Tree.{Tree, Nothing, Root, is_there}
 use Rattle.quad_matrix.specs.declared.chunk.MatChunk.{MatChunk}
 use Rattle.quad_matrix.specs.declared.chunk.MatChunk.TheVariants.{Leaf, Node}
 use Rattle.quad_matrix.specs.Chunks.{peak_in}
-use Rattle.quad_matrix.specs.Spots.{side_of}
+use Rattle.chunk_codec.specs.Spots.{side_of}
 use Rattle.quad_matrix.specs.Blocks.{block_of, alone, IsCanonical}
 use Rattle.quad_matrix.proofs.Canonical.{canonical_leaf, canonical_node, node_of, is_there_block, peak-zeros}
 

@@ -1,6 +1,6 @@
 -- The sides of blocks.
 use Rattle.std.proofs.Common.{◌≡◌, ℕ, suc, ◌+◌, ◌-◌, arith, pow-suc}
-use Rattle.quad_matrix.specs.Spots.{side_of}
+use Rattle.chunk_codec.specs.Spots.{side_of}
 
 -- the side of a leaf
 pub side_low : (b : ℕ) → side_of b 0 ≡ b

@@ -12,7 +12,7 @@ use Rattle.leaf_blocks.specs.Block.{IsBlock}
 use Rattle.task_types.specs.Tree.{Tree, Nothing, Root, child}
 use Rattle.quad_matrix.specs.declared.chunk.MatChunk.{MatChunk}
 use Rattle.quad_matrix.specs.declared.kind.What.TheVariants.{Add, Join}
-use Rattle.quad_matrix.specs.Spots.{side_of}
+use Rattle.chunk_codec.specs.Spots.{side_of}
 use Rattle.quad_matrix.specs.Blocks.{block_of, canonical, IsCanonical}
 use Rattle.quad_matrix.specs.Goals.{goal_at, FitsAt}
 use Rattle.quad_matrix.proofs.Sides.{suc-sub_one}

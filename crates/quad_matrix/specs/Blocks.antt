@@ -2,10 +2,11 @@
 use Rattle.std.specs.Prelude.{◌≡◌, ℕ, zero, suc, ◌-◌, ◌^◌, ◌≤◌, max, ◌==◌, if◌then◌else◌, List, [], ◌∷◌, ℤ, pos, unsigned_abs}
 use Rattle.dense_def.specs.Matrix.{Matrix, height, block, joined, zeros, peak_of}
 use Rattle.leaf_blocks.specs.Block.{IsBlock}
-use Rattle.task_types.specs.Tree.{Tree, Nothing, Root}
+use Rattle.task_types.specs.Tree.{Tree, Nothing, Root, tree_value}
 use Rattle.quad_matrix.specs.declared.chunk.MatChunk.{MatChunk}
 use Rattle.quad_matrix.specs.declared.chunk.MatChunk.TheVariants.{Leaf, Node, Entries, Num}
-use Rattle.quad_matrix.specs.Spots.{side_of, block_of_spots}
+use Rattle.chunk_codec.specs.Spots.{side_of}
+use Rattle.quad_matrix.specs.Spots.{block_listed}
 
 -- ---- What trees stand for
 
@@ -28,13 +29,12 @@ stands (Leaf m) values = a_block (λ b h. m)
 stands (Node k peak) (x ∷ y ∷ z ∷ w ∷ []) =
     a_block (λ b h. joined (x.block b (h - 1)) (y.block b (h - 1)) (z.block b (h - 1)) (w.block b (h - 1)))
 stands (Node k peak) values = no_value
-stands (Entries entries) values = a_block (λ b h. block_of_spots (side_of b h) entries.list)
+stands (Entries entries) values = a_block (λ b h. block_listed entries.symmetric (side_of b h) entries.list)
 stands (Num n) values = record no_value { number = n }
 
 -- what a tree stands for
 abbrev pub value : Tree MatChunk → MatValue
-value Nothing = no_value
-value (Root content a b c d) = stands content (value a ∷ value b ∷ value c ∷ value d ∷ [])
+value tree = tree_value no_value stands tree
 
 -- the block of a tree with leaves of side b and h levels above them
 abbrev pub block_of : ℕ → ℕ → Tree MatChunk → Matrix

@@ -1,8 +1,9 @@
 -- The contents of chunks.
-use Rattle.std.specs.Prelude.{ℕ, ◌≤◌, max, List, [], ◌∷◌, unsigned_abs}
+use Rattle.std.specs.Prelude.{ℕ, ◌≤◌, unsigned_abs}
 use Rattle.std.proofs.Common.{arith}
-use Rattle.dense_def.specs.Matrix.{peak_of}
-use Rattle.quad_matrix.specs.declared.chunk.Spot.{Spot}
+use Rattle.dense_def.specs.Matrix.{height, peak_of}
+use Rattle.chunk_codec.specs.Spots.{AreSoundSpots, greatest_of}
+use Rattle.chunk_codec.specs.Sound.{IsSoundBlock, IsSoundNode, IsSoundNumber}
 use Rattle.quad_matrix.specs.declared.chunk.MatChunk.{MatChunk}
 use Rattle.quad_matrix.specs.declared.chunk.MatChunk.TheVariants.{Leaf, Node, Entries, Num}
 
@@ -20,10 +21,12 @@ few_children_of (Node height peak) = omega arith
 few_children_of (Entries entries) = omega arith
 few_children_of (Num n) = omega arith
 
--- the greatest absolute value of an entry of a list
-abbrev pub greatest_of : List Spot → ℕ
-greatest_of [] = 0
-greatest_of (spot ∷ spots) = max (unsigned_abs spot.value) (greatest_of spots)
+-- which contents are sound: those that have bytes
+abbrev pub IsSoundChunk : MatChunk → Type 0
+IsSoundChunk (Leaf m) = IsSoundBlock (height m) (peak_of m)
+IsSoundChunk (Node levels peak) = IsSoundNode levels peak
+IsSoundChunk (Entries entries) = AreSoundSpots entries.leaf entries.height entries.symmetric entries.list
+IsSoundChunk (Num n) = IsSoundNumber n
 
 -- the peak of a content: the greatest absolute value of a number in it
 abbrev pub peak_in : MatChunk → ℕ

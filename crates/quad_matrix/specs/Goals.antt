@@ -1,5 +1,5 @@
 -- What each kind of task asks, as a function of dense values.
-use Rattle.std.specs.Prelude.{◌≡◌, ℕ, ◌+◌, ◌-◌, ◌*◌, ◌^◌, ◌≤◌, List, [], ◌∷◌, ◌+ℤ◌, unsigned_abs}
+use Rattle.std.specs.Prelude.{◌≡◌, ℕ, ◌+◌, ◌-◌, ◌*◌, ◌^◌, ◌≤◌, Bool, false, List, [], ◌∷◌, ◌+ℤ◌, unsigned_abs}
 use Rattle.dense_def.specs.Matrix.{plus, joined, trace_of, SumFits, TraceFits}
 use Rattle.task_types.specs.Tree.{Tree, Nothing, Root}
 use Rattle.quad_matrix.specs.declared.chunk.MatChunk.{MatChunk}
@@ -14,6 +14,14 @@ use Rattle.quad_matrix.specs.Blocks.{block_of, number_of, canonical, number_tree
 abbrev pub kind_of : What → ℕ → MatKind
 kind_of what height = record { what = what; height = height }
 
+-- the kind that computes something on blocks of a height; a sum of numbers has height 0
+abbrev pub kind_at : ℕ → What → MatKind
+kind_at height Assign = kind_of Assign height
+kind_at height Add = kind_of Add height
+kind_at height Join = kind_of Join height
+kind_at height Trace = kind_of Trace height
+kind_at height AddNum = kind_of AddNum 0
+
 -- ---- Goals
 
 -- the goal of a kind of height h on trees whose leaves have side b
@@ -24,7 +32,11 @@ goal_at b Join h (x ∷ y ∷ z ∷ w ∷ []) =
     canonical b h (joined (block_of b (h - 1) x) (block_of b (h - 1) y) (block_of b (h - 1) z) (block_of b (h - 1) w))
 goal_at b Trace h (x ∷ []) = number_tree (trace_of (block_of b h x))
 goal_at b AddNum h (x ∷ y ∷ []) = number_tree (number_of x +ℤ number_of y)
-goal_at b what h trees = Nothing
+goal_at b Assign h trees = Nothing
+goal_at b Add h trees = Nothing
+goal_at b Join h trees = Nothing
+goal_at b Trace h trees = Nothing
+goal_at b AddNum h trees = Nothing
 
 -- the goal of a kind on trees
 abbrev pub goal_of : MatKind → List (Tree MatChunk) → Tree MatChunk
@@ -32,24 +44,28 @@ goal_of kind trees = goal_at (leaf_in trees) kind.what kind.height trees
 
 -- ---- Where goals are defined
 
--- nothing, or a sound list of entries
-abbrev pub IsList : ℕ → ℕ → Tree MatChunk → Type 0
-IsList b h Nothing = Unit {0}
-IsList b h (Root (chunk.Entries entries) x y z w) =
-    AreSoundEntries b h entries × (x ≡ Nothing) × (y ≡ Nothing) × (z ≡ Nothing) × (w ≡ Nothing)
-IsList b h (Root content x y z w) = ⊥
+-- nothing, or a sound list of entries, of a symmetric block or of a general one
+abbrev pub IsList : ℕ → ℕ → Bool → Tree MatChunk → Type 0
+IsList b h mirrored Nothing = Unit {0}
+IsList b h mirrored (Root (chunk.Entries entries) x y z w) =
+    AreSoundEntries b h mirrored entries × (x ≡ Nothing) × (y ≡ Nothing) × (z ≡ Nothing) × (w ≡ Nothing)
+IsList b h mirrored (Root content x y z w) = ⊥
 
 -- The trees are as many as the kind has inputs, they are nothing, canonical or sound, their heights and leaves fit, and at
 -- each place of the output the absolute values of the terms sum to at most 2 ^ 126.
 abbrev pub FitsAt : ℕ → What → ℕ → List (Tree MatChunk) → Type 0
-FitsAt b Assign h (x ∷ []) = IsList b h x
+FitsAt b Assign h (x ∷ []) = IsList b h false x
 FitsAt b Add h (x ∷ y ∷ []) = IsCanonical b h x × IsCanonical b h y × SumFits (block_of b h x) (block_of b h y)
 FitsAt b Join h (x ∷ y ∷ z ∷ w ∷ []) =
     (1 ≤ h) × IsCanonical b (h - 1) x × IsCanonical b (h - 1) y × IsCanonical b (h - 1) z × IsCanonical b (h - 1) w
 FitsAt b Trace h (x ∷ []) = IsCanonical b h x × TraceFits (block_of b h x)
 FitsAt b AddNum h (x ∷ y ∷ []) =
     (h ≡ 0) × IsNumber x × IsNumber y × (unsigned_abs (number_of x) + unsigned_abs (number_of y) ≤ 2 ^ 126)
-FitsAt b what h trees = ⊥
+FitsAt b Assign h trees = ⊥
+FitsAt b Add h trees = ⊥
+FitsAt b Join h trees = ⊥
+FitsAt b Trace h trees = ⊥
+FitsAt b AddNum h trees = ⊥
 
 -- the goal of a kind on trees is defined: for some side of the leaves they fit
 pub record IsDefined (kind : MatKind) (trees : List (Tree MatChunk)) : Type 0 where

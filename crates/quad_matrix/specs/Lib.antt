@@ -1,8 +1,10 @@
-pub mod Names
 pub mod Chunks
 pub mod Spots
 pub mod Blocks
 pub mod Goals
+pub mod Names
 pub mod Plans
 pub mod Works
 pub mod Matrices
+pub mod Quarters
+pub mod Portions

@@ -1,12 +1,9 @@
--- Blocks as lists of entries. Rows and columns count from 0.
-use Rattle.std.specs.Prelude.{◌≡◌, ℕ, ◌+◌, ◌-◌, ◌*◌, ◌^◌, ◌<◌, ◌≤◌, Bool, true, false, ◌&&◌, ◌||◌, ◌==◌, nat_lt, nat_le, IsTrue, if◌then◌else◌, List, [], ◌∷◌, length, map, filter, All, ℤ, pos, unsigned_abs}
+-- Lists of entries as blocks. Rows and columns count from 0.
+use Rattle.std.specs.Prelude.{◌≡◌, ℕ, ◌+◌, ◌-◌, min, max, Bool, true, false, ◌&&◌, ◌==◌, nat_le, if◌then◌else◌, List, [], ◌∷◌, map, filter, ℤ, pos}
 use Rattle.dense_def.specs.Matrix.{Matrix, made}
-use Rattle.quad_matrix.specs.declared.chunk.Spot.{Spot}
+use Rattle.chunk_codec.specs.declared.plain.Spot.{Spot}
+use Rattle.chunk_codec.specs.Spots.{AreSoundSpots}
 use Rattle.quad_matrix.specs.declared.chunk.Entries.{Entries}
-
--- the side of a block whose leaves have side b, and which has h levels above them
-abbrev pub side_of : ℕ → ℕ → ℕ
-side_of b h = b * 2 ^ h
 
 -- whether an entry names row i and column j
 abbrev pub is_at : ℕ → ℕ → Spot → Bool
@@ -21,34 +18,23 @@ spot_value (spot ∷ spots) i j = if is_at i j spot then spot.value else spot_va
 abbrev pub block_of_spots : ℕ → List Spot → Matrix
 block_of_spots side spots = made side side (λ i j. spot_value spots i j)
 
--- whether one entry stands before another: in an earlier row, or in the same row and an earlier column
-abbrev pub stands_before : Spot → Spot → Bool
-stands_before one other = nat_lt one.row other.row || (one.row == other.row && nat_lt one.column other.column)
+-- the symmetric block whose upper triangle some entries give: the place below the diagonal has the value of the one above it
+-- with row and column exchanged
+abbrev pub mirrored_block : ℕ → List Spot → Matrix
+mirrored_block side spots = made side side (λ i j. spot_value spots (min i j) (max i j))
 
--- whether each entry stands before the next
-abbrev pub spots_rise : List Spot → Bool
-spots_rise [] = true
-spots_rise (spot ∷ []) = true
-spots_rise (spot ∷ next ∷ spots) = stands_before spot next && spots_rise (next ∷ spots)
+-- the block of a list of entries, by whether it is symmetric
+abbrev pub block_listed : Bool → ℕ → List Spot → Matrix
+block_listed false side spots = block_of_spots side spots
+block_listed true side spots = mirrored_block side spots
 
--- an entry of a block of this side, with a value of 64 bits other than 0
-pub record IsSpot (side : ℕ) (spot : Spot) : Type 0 where
-  pub row : spot.row < side
-  pub column : spot.column < side
-  pub value : spot.value ≡ pos 0 → ⊥
-  pub small : unsigned_abs spot.value ≤ 2 ^ 63
-
--- A sound list of entries of a general block with leaves of side b and h levels above them.
-pub record AreSoundEntries (b h : ℕ) (entries : Entries) : Type 0 where
+-- A sound list of entries of a block with leaves of side b and h levels above them; `mirrored` tells whether it is the list of
+-- a symmetric block, which has no entry below the diagonal.
+pub record AreSoundEntries (b h : ℕ) (mirrored : Bool) (entries : Entries) : Type 0 where
   pub leaf : entries.leaf ≡ b
-  pub leaf_low : 1 ≤ b
-  pub leaf_high : b ≤ 64
   pub height : entries.height ≡ h
-  pub low : h ≤ 16
-  pub general : entries.symmetric ≡ false
-  pub some : 1 ≤ length entries.list
-  pub rising : IsTrue (spots_rise entries.list)
-  pub spots : All (IsSpot (side_of b h)) entries.list
+  pub symmetric : entries.symmetric ≡ mirrored
+  pub listed : AreSoundSpots b h mirrored entries.list
 
 -- the quadrant in which an entry lies, for quadrants of side half: 0 upper left, 1 upper right, 2 lower left, 3 lower right
 abbrev pub quadrant_of : ℕ → Spot → ℕ

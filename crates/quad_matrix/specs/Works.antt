@@ -4,9 +4,9 @@ use Rattle.dense_def.specs.Matrix.{Matrix, peak_of}
 use Rattle.task_types.specs.Tree.{Tree, Nothing, Root, is_there}
 use Rattle.quad_matrix.specs.declared.chunk.MatChunk.{MatChunk}
 use Rattle.quad_matrix.specs.declared.kind.What.{What}
-use Rattle.quad_matrix.specs.declared.kind.What.TheVariants.{Assign, Add, Trace}
+use Rattle.quad_matrix.specs.declared.kind.What.TheVariants.{Assign, Add, Join, Trace, AddNum}
 use Rattle.quad_matrix.specs.declared.kind.MatKind.{MatKind}
-use Rattle.quad_matrix.specs.Spots.{side_of}
+use Rattle.chunk_codec.specs.Spots.{side_of}
 use Rattle.quad_matrix.specs.Blocks.{block_of, leaf_of, upper_left, upper_right, lower_left, lower_right}
 
 -- an item where it is asked for
@@ -68,7 +68,11 @@ abbrev pub work_at : What → ℕ → List (Tree MatChunk) → ℕ
 work_at Assign h (x ∷ []) = assign_work (leaf_of x) h (block_of (leaf_of x) h x)
 work_at Add h (x ∷ y ∷ []) = add_work h x y
 work_at Trace h (x ∷ []) = trace_work h x
-work_at what h trees = 1
+work_at Assign h trees = 1
+work_at Add h trees = 1
+work_at Join h trees = 1
+work_at Trace h trees = 1
+work_at AddNum h trees = 1
 
 abbrev pub work_of : MatKind → List (Tree MatChunk) → ℕ
 work_of kind trees = work_at kind.what kind.height trees

@@ -1,17 +1,11 @@
 ghost use Rattle.std.specs.Prelude.{◌≡◌};
-ghost use Rattle.quad_matrix.specs.Chunks.{arity_of, few_children_of, greatest_of, peak_in};
+ghost use Rattle.chunk_codec.specs.Spots.{greatest_of};
+ghost use Rattle.quad_matrix.specs.Chunks.{arity_of, few_children_of, IsSoundChunk, peak_in};
 
 use cht_ids::List;
+use chunk_codec::Spot;
 use leaf_blocks::Leaf;
 use task_types::Payload;
-
-/// An entry of a list: its row and its column, both counted from 0, and its value, which is not 0.
-#[derive(Clone, Copy, Debug, PartialEq, Eq)]
-pub struct Spot {
-    pub row: u32,
-    pub column: u32,
-    pub value: i64,
-}
 
 /// A square block as the list of its entries that are not zero, row by row and within a row by rising column. Its side is
 /// `leaf * 2^height`.
@@ -21,9 +15,9 @@ pub struct Entries {
     pub leaf: u32,
     /// How many levels stand above the leaves, at most 16.
     pub height: u32,
-    /// Whether the list is the upper triangle of a symmetric block.
+    /// Whether the list is the upper triangle of a symmetric block, whose lower one mirrors it.
     pub symmetric: bool,
-    /// The entries.
+    /// The entries, at least one and fewer than 2^32.
     pub list: List<Spot>,
 }
 
@@ -76,12 +70,14 @@ impl MatChunk {
 impl Payload for MatChunk {
     ghost arity = { arity_of };
 
+    ghost sound = { IsSoundChunk };
+
     ghost few_children = { few_children_of };
 
     fn arity(&self) -> u32 {
         match self {
             MatChunk::Node { .. } => 4,
-            _ => 0,
+            MatChunk::Leaf(_) | MatChunk::Entries(_) | MatChunk::Num(_) => 0,
         }
     }
 }

@@ -1,7 +1,9 @@
 ghost use Rattle.std.specs.Prelude.{◌≡◌, ◌≤◌, length};
 ghost use Rattle.quad_matrix.specs.Names.{what_name, what_of};
+ghost use Rattle.quad_matrix.specs.Goals.{kind_at};
 
 use cht_ids::Short;
+use task_plans::Operation;
 use task_types::{Kinds, kind_text};
 
 /// What a task on matrices computes.
@@ -48,6 +50,20 @@ impl What {
         ensures { result ≡ what_of name.now }
     {
         ALL.iter().copied().find(|what| what.name() == name)
+    }
+}
+
+impl Operation for What {
+    type Kind = MatKind;
+
+    ghost kind_at = { kind_at };
+
+    fn kind_at(self, height: u32) -> MatKind {
+        let height = match self {
+            What::Assign | What::Add | What::Join | What::Trace => height,
+            What::AddNum => 0,
+        };
+        MatKind { what: self, height }
     }
 }
 

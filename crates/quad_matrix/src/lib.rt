@@ -3,11 +3,11 @@
 #![tactic(auto)]
 
 mod chunk;
+mod entries;
 mod kind;
 mod plan;
-#[cfg(test)]
-mod tests;
 
-pub use chunk::{Entries, MatChunk, Spot};
+pub use chunk::{Entries, MatChunk};
+pub use chunk_codec::Spot;
+pub use entries::{leaf_block, portions};
 pub use kind::{MatKind, What};
-pub use plan::{Part, Term};

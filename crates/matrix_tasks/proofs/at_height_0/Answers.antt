@@ -6,6 +6,7 @@ use Rattle.quad_matrix.specs.Matrices.{matrices}
 use Rattle.matrix_tasks.proofs.Joins.{join_sound}
 use Rattle.matrix_tasks.proofs.LowBlocks.{sum_sound, numbers_fit, add_sound, leaves_fit}
 use Rattle.matrix_tasks.proofs.LowSingles.{trace_sound, leaf_fits, assign_sound, entries_fit}
+use Rattle.matrix_tasks.proofs.Contents.{node_fits}
 use Rattle.matrix_tasks.proofs.at_height_0.Goals as goal
 
 pub assign-requires : goal.assign-requires
@@ -39,6 +40,10 @@ add-requires-in-AddNum c =
 pub returns-in-AddNum : goal.returns-in-AddNum
 returns-in-AddNum c =
     IfOk-weaker c.add-in-AddNum.result _ _ (λ outcome e trees s d. subst (λ answer. IsSound arity_of matrices c.args.kind trees answer) (sym e) (sum_sound c.args.kind.what c.args.kind.height c.args.inputs.now c.in-AddNum.is c.requires.present trees s d)) c.add-in-AddNum.ensures
+
+pub join-requires : goal.join-requires
+join-requires c =
+    node_fits c.args.kind.what c.args.kind.height c.args.inputs.now c.in-Join.is c.requires.defined.0 c.requires.defined.1 c.requires.defined.2
 
 pub returns-in-Join : goal.returns-in-Join
 returns-in-Join c =

@@ -3,11 +3,16 @@ use Rattle.std.proofs.lemmas.Result.{IfOk-weaker}
 use Rattle.task_types.specs.Sound.{IsSound}
 use Rattle.quad_matrix.specs.Chunks.{arity_of}
 use Rattle.quad_matrix.specs.Matrices.{matrices}
-use Rattle.matrix_tasks.specs.Answers.{given}
+use Rattle.task_plans.specs.Outcomes.{given}
 use Rattle.matrix_tasks.proofs.Joins.{join_sound}
 use Rattle.matrix_tasks.proofs.NullInputs.{null_sound}
-use Rattle.matrix_tasks.proofs.Executed.{plan_sound, have_quadrants}
+use Rattle.matrix_tasks.proofs.Executed.{plan_sound, have_portions}
+use Rattle.matrix_tasks.proofs.Contents.{node_fits}
 use Rattle.matrix_tasks.proofs.run_general.Goals as goal
+
+pub join-requires : goal.join-requires
+join-requires c =
+    node_fits c.args.kind.what c.args.kind.height c.args.inputs.now c.in-Join.is c.requires.defined.0 c.requires.defined.1 c.requires.defined.2
 
 pub returns-in-Join : goal.returns-in-Join
 returns-in-Join c =
@@ -19,7 +24,7 @@ returns-then-not-all_present c =
 
 pub answer-requires : goal.answer-requires
 answer-requires c =
-    have_quadrants c.args.kind.what c.args.kind.height c.args.inputs.now c.in_default.not-Join (omega arith) c.requires.0 c.requires.1 c.requires.2
+    have_portions c.args.kind.what c.args.kind.height c.args.inputs.now c.in_default.not-Join (omega arith) c.requires.defined.0 c.requires.defined.1 c.requires.defined.2
 
 pub returns-then-kind-gt0 : goal.returns-then-kind-gt0
 returns-then-kind-gt0 c =

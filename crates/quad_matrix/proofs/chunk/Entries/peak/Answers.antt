@@ -1,5 +1,5 @@
 use Rattle.std.proofs.Common.{rules, FitsSigned, w64, get_or, add-one, to_z-of_z, unsigned_abs, ap, sym, ◌∙◌, ap₂, max, pos}
-use Rattle.quad_matrix.specs.declared.chunk.Spot.{Spot}
+use Rattle.chunk_codec.specs.declared.plain.Spot.{Spot}
 use Rattle.quad_matrix.proofs.Peaks.{greatest_more}
 use Rattle.quad_matrix.proofs.chunk.Entries.peak.Goals as goal
 

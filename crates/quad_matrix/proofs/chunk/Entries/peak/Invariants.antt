@@ -1,5 +1,5 @@
 use Rattle.std.proofs.Common.{◌≡◌, take}
-use Rattle.quad_matrix.specs.Chunks.{greatest_of}
+use Rattle.chunk_codec.specs.Spots.{greatest_of}
 use Rattle.quad_matrix.proofs.chunk.Entries.peak.Given as goal
 
 abbrev pub invariant-loop-spot : goal.invariant-loop-spot

@@ -1,6 +1,0 @@
-use Rattle.std.proofs.Common.{◌≡◌, take}
-use Rattle.matrix_tasks.specs.Quarters.{quarters_of}
-use Rattle.matrix_tasks.proofs.entries.split.Given as goal
-
-abbrev pub invariant-loop-spot : goal.invariant-loop-spot
-invariant-loop-spot l = l.quarters ≡ quarters_of l.half (take l.spot-index l.spot-items)
