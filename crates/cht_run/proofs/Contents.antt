@@ -5,10 +5,10 @@ use Rattle.task_types.specs.Tree.{Tree, Nothing, Root}
 use Rattle.quad_matrix.specs.declared.chunk.MatChunk.{MatChunk}
 use Rattle.quad_matrix.specs.declared.chunk.MatChunk.TheVariants.{Leaf, Node, Entries, Num}
 use Rattle.quad_matrix.specs.Chunks.{peak_in}
-use Rattle.quad_matrix.specs.Spots.{side_of}
+use Rattle.chunk_codec.specs.Spots.{side_of}
 use Rattle.quad_matrix.specs.Blocks.{block_of, number_of, IsCanonical}
-use Rattle.quad_matrix.proofs.Canonical.{peak-zeros}
-use Rattle.quad_matrix.proofs.Roots.{peak_of_root}
+use Rattle.quad_matrix.proofs.ForOthers.{peak-zeros}
+use Rattle.quad_matrix.proofs.ForOthers.{peak_of_root}
 use Rattle.cht_run.specs.Parts.{content_of}
 use Rattle.cht_run.specs.Numbers.{number_in}
 

@@ -18,13 +18,14 @@ use Rattle.quad_matrix.specs.declared.chunk.MatChunk.{MatChunk}
 use Rattle.quad_matrix.specs.declared.chunk.MatChunk.TheVariants as chunk
 use Rattle.quad_matrix.specs.declared.chunk.Entries.{Entries}
 use Rattle.quad_matrix.specs.declared.kind.What.TheVariants.{Assign, Add, Trace}
-use Rattle.quad_matrix.specs.Spots.{side_of, block_of_spots, AreSoundEntries}
-use Rattle.quad_matrix.specs.Blocks.{block_of, number_of, alone, IsCanonical}
+use Rattle.chunk_codec.specs.Spots.{side_of}
+use Rattle.quad_matrix.specs.Spots.{block_of_spots, block_listed, AreSoundEntries}
+use Rattle.quad_matrix.specs.Blocks.{block_of, number_of, canonical, alone, IsCanonical}
 use Rattle.quad_matrix.specs.Goals.{goal_at, FitsAt}
-use Rattle.quad_matrix.proofs.Canonical.{block_of_canonical, nothing_is_canonical}
-use Rattle.quad_matrix.proofs.Sums.{add_canonical}
-use Rattle.quad_matrix.proofs.Numbers.{number_of_tree}
-use Rattle.quad_matrix.proofs.Lists.{spots_whole, spots_tall, assign_canonical}
+use Rattle.quad_matrix.proofs.ForOthers.{block_of_canonical, nothing_is_canonical}
+use Rattle.quad_matrix.proofs.ForOthers.{add_canonical}
+use Rattle.quad_matrix.proofs.ForOthers.{number_of_tree}
+use Rattle.quad_matrix.proofs.ForOthers.{spots_whole, spots_tall, assign_canonical}
 use Rattle.cht_run.specs.declared.held_matrix.HeldMatrix.{HeldMatrix}
 use Rattle.cht_run.specs.Held.{Environment, matrix_at, form_at, sum_fits as sum_test, trace_fits as trace_test, IsTraceOf}
 use Rattle.cht_run.specs.HeldMatrices.{matrix_in, known_as, known_of, environment_of, IsTreeOf, IsHeld, IsHeldAs}
@@ -49,11 +50,11 @@ module _ (b h : ℕ) where
       record { canonical = nothing_is_canonical b h; block = completed-flat (side_of b h) m whole flat }
 
   -- the tree that a sound list is assigned
-  pub assigned_canonical : (entries : Entries) (tree : Tree MatChunk) → AreSoundEntries b h entries → tree ≡ goal_at b Assign h (alone (chunk.Entries entries) ∷ [])
+  pub assigned_canonical : (entries : Entries) (tree : Tree MatChunk) → AreSoundEntries b h false entries → tree ≡ goal_at b Assign h (alone (chunk.Entries entries) ∷ [])
       → IsCanonical b h tree × (block_of b h tree ≡ block_of_spots (side_of b h) entries.list)
   assigned_canonical entries tree sound is = (
     subst (IsCanonical b h) (sym is) (assign_canonical b h (alone (chunk.Entries entries)) (sound, refl, refl, refl, refl)),
-    ap (block_of b h) is
+    ap (block_of b h) (is ∙ ap (λ mirrored. canonical b h (block_listed mirrored (side_of b h) entries.list)) sound.symmetric)
         ∙ block_of_canonical b h (block_of_spots (side_of b h) entries.list) (spots_whole (side_of b h) entries.list) (spots_tall (side_of b h) entries.list) refl,
   )
 

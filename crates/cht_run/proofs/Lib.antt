@@ -10,5 +10,6 @@ pub mod Evaluation
 pub mod Contents
 pub mod Completed
 pub mod Kept
+pub mod Served
 pub mod ListedEntries
 pub mod Rows

@@ -1,8 +1,10 @@
 -- The entries of a market as a list for a quadtree.
-use Rattle.std.proofs.Common.{◌≡◌, ◌⊎◌, inl, inr, ℕ, zero, suc, ◌+◌, ◌-◌, ◌<◌, ◌≤◌, true, false, ◌&&◌, ◌==◌, List, [], ◌∷◌, ◌++◌, length, get_or, map, All, ℤ, pos, refl, sym, ap, ap₂, ◌∙◌, subst, arith}
+use Rattle.std.proofs.Common.{◌≡◌, ◌⊎◌, inl, inr, ℕ, zero, suc, ◌+◌, ◌-◌, ◌*◌, ◌^◌, ◌<◌, ◌≤◌, true, false, ◌&&◌, ◌==◌, List, [], ◌∷◌, ◌++◌, length, length-append, get_or, map, All, ℤ, pos, refl, sym, ap, ap₂, ◌∙◌, subst, arith}
 use Rattle.std.specs.Prelude.{nat_lt, None, Some}
 use Rattle.std.proofs.lemmas.Bool.{true≢false, cases_lt, cond_both, cond-false, and_from, and_left, and_right, or_left, or_right, lt-ltb, eq-eqb, ne_eqb}
 use Rattle.std.proofs.lemmas.Bool.Decides.{nat_tests}
+use Rattle.std.proofs.Math.Nat.{min-le_left, min-le_right, suc-mul}
+use Rattle.std.proofs.lemmas.Nat.{mul-le}
 use Rattle.std.proofs.lemmas.List.{get_or_past}
 use Rattle.std.proofs.lemmas.List.Elements.{All-nil, All-cons, All-head, All-tail}
 use Rattle.dense_def.specs.Matrix.{entry, made, tabulate, peak_of}
@@ -13,12 +15,13 @@ use Rattle.mm_text.specs.declared.market.Form.TheVariants.{General}
 use Rattle.mm_text.specs.declared.market.Market.{Market}
 use Rattle.mm_text.specs.Block.{names, value_at, matrix_listed}
 use Rattle.mm_text.specs.Cells.{is_zero, cells_of_row, cells_of_rows, cells_of, cells_listed, entry_cells}
-use Rattle.quad_matrix.specs.declared.chunk.Spot.{Spot}
-use Rattle.quad_matrix.specs.Spots.{side_of, spot_value, block_of_spots, stands_before, spots_rise, IsSpot}
-use Rattle.quad_matrix.proofs.Canonical.{peak-zeros}
+use Rattle.chunk_codec.specs.declared.plain.Spot.{Spot}
+use Rattle.chunk_codec.specs.Spots.{side_of, stands_before, spots_rise, IsSpot}
+use Rattle.quad_matrix.specs.Spots.{spot_value, block_of_spots}
+use Rattle.quad_matrix.proofs.ForOthers.{peak-zeros}
 use Rattle.cht_script.specs.Reading.{IsGoodMarket, matrix_of_market}
 use Rattle.cht_run.specs.Held.{completed}
-use Rattle.cht_run.specs.Listed.{IsListOf, spot_of, IsCounted, HasSmallValue}
+use Rattle.cht_run.specs.Listed.{most_listed, IsListOf, spot_of, IsCounted, HasSmallValue}
 
 -- ---- The cells of a made matrix
 
@@ -156,7 +159,8 @@ moved_spots side rows columns i j (e ∷ es) tall wide from small =
       row = omega (arith, cell.top, cell.bottom);
       column = omega (arith, cell.left, cell.right);
       value = not_zero e.value cell.value;
-      small = All-head HasSmallValue (spot_of e) (map spot_of es) small;
+      small = (All-head HasSmallValue (spot_of e) (map spot_of es) small).0;
+      below = (All-head HasSmallValue (spot_of e) (map spot_of es) small).1;
     })
     (moved_spots side rows columns e.row (e.column + 1) es tall wide from.1 (All-tail HasSmallValue (spot_of e) (map spot_of es) small))
 
@@ -203,26 +207,64 @@ length_moved : (es : List Entry) → length (map spot_of es) ≡ length es
 length_moved [] = refl
 length_moved (e ∷ es) = ap suc (length_moved es)
 
+-- what lies within the most that is listed lies within the side
+pub listed_side : (side n : ℕ) → n ≤ most_listed side → n ≤ side
+listed_side side n le = omega (arith, min-le_right 4096 side)
+
+-- a row has no more cells than numbers
+row_few : (i j : ℕ) (xs : List ℤ) → length (cells_of_row i j xs) ≤ length xs
+row_few i j [] = omega arith
+row_few i j (x ∷ xs) =
+    let more = row_few i (j + 1) xs in
+    cond_both (is_zero x) (cells_of_row i (j + 1) xs) (record { row = i; column = j; value = x } ∷ cells_of_row i (j + 1) xs)
+    (λ cs. length cs ≤ suc (length xs)) (λ e. omega arith) (λ e. omega arith)
+
+-- rows of so many numbers have no more cells than they have places
+rows_few : (columns n i : ℕ) (g : ℕ → ℕ → ℤ) → length (cells_of_rows i (tabulate n (λ k. tabulate columns (λ j. g k j)))) ≤ n * columns
+rows_few columns zero i g = omega arith
+rows_few columns (suc n) i g =
+    let row = cells_of_row i 1 (tabulate columns (λ j. g 0 j)) in
+    let rest = cells_of_rows (i + 1) (tabulate n (λ k. tabulate columns (λ j. g (suc k) j))) in
+    let first = row_few i 1 (tabulate columns (λ j. g 0 j)) in
+    let more = rows_few columns n (i + 1) (λ k. g (suc k)) in
+    omega (arith, length-append row rest, length-tabulate columns (λ j. g 0 j), suc-mul n columns)
+
+length_cells : (es : List Entry) → length (entry_cells es) ≡ length es
+length_cells [] = refl
+length_cells (e ∷ es) = ap suc (length_cells es)
+
+-- a good market has fewer than 2 ^ 32 entries
+market_few : (side : ℕ) (market : Market) → IsGoodMarket (most_listed side) market → length market.entries < 2 ^ 32
+market_few side market good =
+    let f : ℕ → ℕ → ℤ = λ i j. value_at market.entries (i + 1) (j + 1) in
+    let same = good.entries ∙ ap₂ cells_listed good.general (market_matrix market good.general) in
+    let places = mul-le market.rows market.columns 4096 4096 (omega (arith, good.rows.1, min-le_left 4096 side)) (omega (arith, good.columns.1, min-le_left 4096 side)) in
+    omega (arith, length_cells market.entries, ap length same, rows_few market.columns market.rows 1 f, places)
+
 -- the entries of a good market, moved, are a sound list of its matrix
-pub market_listed : (b h : ℕ) (market : Market) (spots : List Spot) → IsGoodMarket (side_of b h) market → 1 ≤ b → b ≤ 64 → h ≤ 16 → (length market.entries ≡ 0 → ⊥)
+pub market_listed : (b h : ℕ) (market : Market) (spots : List Spot) → IsGoodMarket (most_listed (side_of b h)) market → 1 ≤ b → b ≤ 64 → h ≤ 16 → (length market.entries ≡ 0 → ⊥)
     → spots ≡ map spot_of market.entries → All HasSmallValue spots
     → IsListOf b h (matrix_of_market market) (Some (record { leaf = b; height = h; symmetric = false; list = spots }))
 market_listed b h market spots good leaf_low leaf_high low some moved small =
     let side = side_of b h in
     let es = market.entries in
-    let from = market_from side market good in
+    let from = market_from (most_listed side) market good in
     let all : All HasSmallValue (map spot_of es) = subst (All HasSmallValue) moved small in
     subst (λ (xs : List Spot). IsListOf b h (matrix_of_market market) (Some (record { leaf = b; height = h; symmetric = false; list = xs }))) (sym moved) (
       record {
         leaf = refl;
-        leaf_low = leaf_low;
-        leaf_high = leaf_high;
         height = refl;
-        low = low;
-        general = refl;
-        some = omega (arith, length_moved es);
-        rising = moved_rise market.rows market.columns 1 1 es from;
-        spots = moved_spots side market.rows market.columns 1 1 es good.rows.1 good.columns.1 from all;
+        symmetric = refl;
+        listed = record {
+          leaf_low = leaf_low;
+          leaf_high = leaf_high;
+          low = low;
+          some = omega (arith, length_moved es);
+          few = omega (arith, length_moved es, market_few side market good);
+          rising = moved_rise market.rows market.columns 1 1 es from;
+          spots = moved_spots side market.rows market.columns 1 1 es (listed_side side market.rows good.rows.1) (listed_side side market.columns good.columns.1) from all;
+          upper = λ never. absurd (true≢false (sym never));
+        };
       },
       block_of_moved side market.rows market.columns es from ∙ ap (completed side) (sym (market_matrix market good.general)),
     )

@@ -11,11 +11,11 @@ use Rattle.leaf_blocks.specs.Block.{IsBlock}
 use Rattle.task_types.specs.Tree.{Tree, Nothing, Root, child}
 use Rattle.quad_matrix.specs.declared.chunk.MatChunk.{MatChunk}
 use Rattle.quad_matrix.specs.declared.chunk.MatChunk.TheVariants as chunk
-use Rattle.quad_matrix.specs.Spots.{side_of}
+use Rattle.chunk_codec.specs.Spots.{side_of}
 use Rattle.quad_matrix.specs.Blocks.{block_of, IsCanonical}
-use Rattle.quad_matrix.proofs.Sides.{side_low, side_twice, suc-sub_one}
-use Rattle.quad_matrix.proofs.Roots.{root_of_leaf, root_of_node}
-use Rattle.quad_matrix.proofs.Quadrants.{quadrants_canonical, block_of_quadrants}
+use Rattle.quad_matrix.proofs.ForOthers.{side_low, side_twice, suc-sub_one}
+use Rattle.quad_matrix.proofs.ForOthers.{root_of_leaf, root_of_node}
+use Rattle.quad_matrix.proofs.ForOthers.{quadrants_canonical, block_of_quadrants}
 use Rattle.mm_text.specs.declared.market.Cell.{Cell}
 use Rattle.mm_text.specs.Cells.{is_zero, cells_of_row, cells_of_rows}
 use Rattle.cht_run.specs.Held.{completed}

@@ -6,7 +6,7 @@ use Rattle.cht_script.specs.Meaning.{Known}
 use Rattle.cht_script.specs.Reading.{name_bytes}
 use Rattle.task_types.specs.Tree.{Tree}
 use Rattle.quad_matrix.specs.declared.chunk.MatChunk.{MatChunk}
-use Rattle.quad_matrix.specs.Spots.{side_of}
+use Rattle.chunk_codec.specs.Spots.{side_of}
 use Rattle.quad_matrix.specs.Blocks.{block_of, IsCanonical}
 use Rattle.cht_run.specs.declared.held_matrix.HeldMatrix.{HeldMatrix}
 use Rattle.cht_run.specs.Held.{Environment, completed, sum_fits}

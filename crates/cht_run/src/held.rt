@@ -1,8 +1,9 @@
 ghost use Rattle.std.specs.Prelude.{◌≡◌, ◌<◌, ◌≤◌, [], length, IfOk, OnOk};
 ghost use Rattle.dense_def.specs.Matrix.{height};
 ghost use Rattle.mm_text.specs.Cells.{cells_listed};
-ghost use Rattle.quad_matrix.specs.Spots.{side_of};
+ghost use Rattle.chunk_codec.specs.Spots.{side_of};
 ghost use Rattle.cht_script.specs.Reading.{name_bytes, IsGoodMarket, matrix_of_market};
+ghost use Rattle.cht_run.specs.Listed.{most_listed};
 ghost use Rattle.cht_run.specs.Held.{with_matrix, matrix_at, form_at, IsBoundSum, IsTraceOf};
 
 use crate::held_matrix::{HeldMatrix, listed, sum, trace};
@@ -53,7 +54,7 @@ impl Held {
 
     /// IsHeldAs a name to a matrix that a script lists. After `Memory` nothing has changed.
     pub(crate) fn bind_market(&mut self, name: Name, market: &Market) -> Result<(), Memory>
-        requires { IsGoodMarket self.old.side market.now }
+        requires { IsGoodMarket (most_listed self.old.side) market.now }
         ensures bound { OnOk result (self.new ≡ with_matrix self.old (name_bytes name) (matrix_of_market market.now)) }
     {
         let binding = listed(self.alloc, self.leaf, self.height, name, market)?;

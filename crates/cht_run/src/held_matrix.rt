@@ -1,11 +1,13 @@
-ghost use Rattle.std.specs.Prelude.{◌≡◌, ◌≤◌, [], ◌∷◌, IfOk};
+ghost use Rattle.std.specs.Prelude.{◌≡◌, ◌≤◌, false, [], ◌∷◌, IfOk};
 ghost use Rattle.dense_def.specs.Matrix.{peak_of};
-ghost use Rattle.quad_matrix.specs.Spots.{side_of, block_of_spots, AreSoundEntries};
+ghost use Rattle.chunk_codec.specs.Spots.{side_of};
+ghost use Rattle.quad_matrix.specs.Spots.{block_of_spots, AreSoundEntries};
 ghost use Rattle.quad_matrix.specs.Blocks.{block_of, number_of, canonical, IsCanonical};
 ghost use Rattle.quad_matrix.specs.Goals.{goal_at, FitsAt};
 ghost use Rattle.cht_script.specs.Reading.{name_bytes, IsGoodMarket, matrix_of_market};
 ghost use Rattle.cht_run.specs.Numbers.{number_in};
 ghost use Rattle.cht_run.specs.Held.{IsTraceOf};
+ghost use Rattle.cht_run.specs.Listed.{most_listed};
 ghost use Rattle.cht_run.specs.HeldMatrices.{matrix_in, IsTreeOf, IsHeld, IsHeldAs, IsSumOf};
 
 use crate::library::MatLib;
@@ -36,7 +38,7 @@ pub(crate) fn listed(
     name: Name,
     market: &Market,
 ) -> Result<HeldMatrix, Memory>
-    requires good { IsGoodMarket (side_of leaf height) market.now }
+    requires good { IsGoodMarket (most_listed (side_of leaf height)) market.now }
     requires leaf { 1 ≤ leaf }
     requires small { leaf ≤ 64 }
     requires height { height ≤ 16 }
@@ -57,7 +59,7 @@ fn tree_of(
     height: u32,
     market: &Market,
 ) -> Result<Plain<MatChunk>, Memory>
-    requires good { IsGoodMarket (side_of leaf height) market.now }
+    requires good { IsGoodMarket (most_listed (side_of leaf height)) market.now }
     requires leaf { 1 ≤ leaf }
     requires small { leaf ≤ 64 }
     requires height { height ≤ 16 }
@@ -76,7 +78,7 @@ fn assigned(
     height: u32,
     entries: Entries,
 ) -> Result<Plain<MatChunk>, Memory>
-    requires { AreSoundEntries leaf height entries }
+    requires { AreSoundEntries leaf height false entries }
     ensures { IfOk result (λ tree. IsCanonical leaf height tree × (block_of leaf height tree ≡ block_of_spots (side_of leaf height) entries.list)) }
 {
     let list = Plain::root(

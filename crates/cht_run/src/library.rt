@@ -16,12 +16,13 @@ impl Library for MatLib {
 
     ghost meanings = { matrices };
 
-    ghost use Rattle.quad_matrix.proofs.Laws.{few_matrices, matrix_works_add_up};
+    ghost use Rattle.quad_matrix.proofs.ForOthers.{few_matrices, matrix_works_add_up};
 
     ghost few_inputs = { few_matrices };
 
     ghost adds_up = { matrix_works_add_up };
 
+    #[tactic(auto, using(crate::proofs::Served::all_general))]
     fn execute(
         alloc: Global,
         kind: MatKind,
@@ -30,6 +31,7 @@ impl Library for MatLib {
         run_general(alloc, kind, inputs)
     }
 
+    #[tactic(auto, using(crate::proofs::Served::all_general))]
     fn fallback(
         alloc: Global,
         kind: MatKind,

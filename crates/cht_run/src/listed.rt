@@ -1,7 +1,7 @@
 ghost use Rattle.std.specs.Prelude.{◌≡◌, ◌≤◌, map, All, IfOk};
-ghost use Rattle.quad_matrix.specs.Spots.{side_of};
+ghost use Rattle.chunk_codec.specs.Spots.{side_of};
 ghost use Rattle.cht_script.specs.Reading.{IsGoodMarket, matrix_of_market};
-ghost use Rattle.cht_run.specs.Listed.{IsListOf, spot_of, IsCounted, HasSmallValue};
+ghost use Rattle.cht_run.specs.Listed.{most_listed, IsListOf, spot_of, IsCounted, HasSmallValue};
 
 use cht_ids::{List, Memory};
 use mm_text::{Entry, Market};
@@ -17,7 +17,7 @@ pub(crate) fn entries_of(
     height: u32,
     market: &Market,
 ) -> Result<Option<Entries>, Memory>
-    requires good { IsGoodMarket (side_of leaf height) market.now }
+    requires good { IsGoodMarket (most_listed (side_of leaf height)) market.now }
     requires leaf { 1 ≤ leaf }
     requires small { leaf ≤ 64 }
     requires height { height ≤ 16 }

@@ -1,9 +1,10 @@
 ghost use Rattle.std.specs.Prelude.{◌≡◌, ℕ, ◌<◌, ◌≤◌, ◌∷◌, [], map, length, Err};
 ghost use Rattle.cht_io.specs.Faults.{Rose};
-ghost use Rattle.quad_matrix.specs.Spots.{side_of};
+ghost use Rattle.chunk_codec.specs.Spots.{side_of};
 ghost use Rattle.dense_def.specs.Matrix.{height};
 ghost use Rattle.cht_script.specs.Meaning.{line_of, told_by, Acts as Does};
 ghost use Rattle.cht_script.specs.Reading.{deed_of, name_bytes, names_of, AreGood};
+ghost use Rattle.cht_run.specs.Listed.{most_listed};
 ghost use Rattle.cht_run.specs.Held.{matrix_at, form_at, shape_of_known};
 ghost use Rattle.cht_run.specs.Running.{Acts, IsReady, Ran, IsAdded, IsTraceWritten, IsPrinted, Stops};
 
@@ -49,7 +50,7 @@ impl From<Failed> for Stop {
 /// Runs the statements of a script, in order, up to the first that is refused.
 pub(crate) fn run_script<K: Sink>(alloc: Global, script: &Script, out: &mut K) -> Status
     requires good { AreGood script.now.grid [] script.now.statements }
-    requires grid { script.now.grid ≤ side_of script.now.leaf script.now.height }
+    requires grid { script.now.grid ≤ most_listed (side_of script.now.leaf script.now.height) }
     requires leaf { 1 ≤ script.now.leaf }
     requires small { script.now.leaf ≤ 64 }
     requires height { script.now.height ≤ 16 }
@@ -89,7 +90,7 @@ fn stopped(stop: Stop, line: u64) -> Status
 
 // Does one statement.
 fn act<K: Sink>(held: &mut Held, statement: &Statement, out: &mut K) -> Result<(), Stop>
-    requires good { AreGood held.old.side (map shape_of_known held.old.known) (statement.now ∷ []) }
+    requires good { AreGood (most_listed held.old.side) (map shape_of_known held.old.known) (statement.now ∷ []) }
     ensures acts { Acts (deed_of statement.now) result held.old held.new (K.took out.old) (K.took out.new) }
     ensures cause { result ≡ Err Stop.WriteFault → Rose (K.faults out.old) (K.faults out.new) }
     ensures later { K.faults out.old ≤ K.faults out.new }

@@ -1,7 +1,7 @@
 use Rattle.std.proofs.Common.{rules, refl, sym, ap, ◌∙◌, arith}
 use Rattle.std.proofs.lemmas.Result.{on_ok_weaker}
 use Rattle.task_types.specs.Tree.{child}
-use Rattle.quad_matrix.specs.Spots.{side_of}
+use Rattle.chunk_codec.specs.Spots.{side_of}
 use Rattle.cht_run.specs.Rows.{row_cells}
 use Rattle.cht_run.proofs.Rows.{leaf_tree, in_children, nothing_row, nothing_child, no_piece, two_pieces, no_number}
 use Rattle.cht_run.proofs.cells.+row.Goals as goal

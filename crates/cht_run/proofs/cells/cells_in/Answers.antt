@@ -1,5 +1,5 @@
 use Rattle.std.proofs.Common.{refl, arith}
-use Rattle.quad_matrix.specs.Spots.{side_of}
+use Rattle.chunk_codec.specs.Spots.{side_of}
 use Rattle.quad_matrix.specs.Blocks.{block_of}
 use Rattle.cht_run.proofs.Rows.{rows_grow, side_small}
 use Rattle.cht_run.proofs.cells.cells_in.Goals as goal

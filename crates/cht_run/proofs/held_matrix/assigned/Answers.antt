@@ -2,7 +2,8 @@ use Rattle.std.proofs.Common.{◌≡◌, [], ◌∷◌, ap, ◌∙◌}
 use Rattle.std.proofs.lemmas.Result.{IfOk-weaker}
 use Rattle.quad_matrix.specs.declared.chunk.MatChunk.TheVariants.{Entries}
 use Rattle.quad_matrix.specs.declared.kind.What.TheVariants.{Assign}
-use Rattle.quad_matrix.specs.Spots.{side_of, block_of_spots}
+use Rattle.chunk_codec.specs.Spots.{side_of}
+use Rattle.quad_matrix.specs.Spots.{block_of_spots}
 use Rattle.quad_matrix.specs.Blocks.{block_of, alone, IsCanonical}
 use Rattle.quad_matrix.specs.Goals.{goal_at}
 use Rattle.cht_run.proofs.Kept.{over_nothing, assigned_canonical}

@@ -1,7 +1,7 @@
 use Rattle.std.proofs.Common.{◌≡◌, ◌∙◌}
 use Rattle.std.proofs.lemmas.Result.{IfOk-weaker}
 use Rattle.quad_matrix.specs.Goals.{goal_at, goal_of}
-use Rattle.quad_matrix.proofs.AnySide.{goal_any}
+use Rattle.quad_matrix.proofs.ForOthers.{goal_any}
 use Rattle.cht_run.proofs.held_matrix.goal.Goals as goal
 
 pub returns : goal.returns

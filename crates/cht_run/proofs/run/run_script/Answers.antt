@@ -2,6 +2,7 @@ use Rattle.std.proofs.Common.{◌+◌, List, [], map, drop, sym, ap, subst, arit
 use Rattle.cht_script.specs.declared.script.Statement.{Statement}
 use Rattle.cht_script.specs.Reading.{AreGood}
 use Rattle.cht_run.specs.Held.{Environment, shape_of_known}
+use Rattle.cht_run.specs.Listed.{most_listed}
 use Rattle.cht_run.specs.Running.{IsRunning}
 use Rattle.cht_run.proofs.Turns.{wider, good_next, running_begins, running_next, running_stops, next_statement}
 use Rattle.cht_run.proofs.run.run_script.Goals as goal
@@ -13,7 +14,7 @@ loop-statement-init g c =
       same = c.as_slice-statement-items.ensures;
       later = omega arith;
       good =
-          subst (λ (env : Environment). AreGood env.side (map shape_of_known env.known) all) (sym c.new-held.ensures)
+          subst (λ (env : Environment). AreGood (most_listed env.side) (map shape_of_known env.known) all) (sym c.new-held.ensures)
           (wider _ _ c.requires.grid [] all (subst (λ (ss : List Statement). AreGood c.args.script.now.grid [] ss) (sym c.as_slice-statement-items.ensures) c.requires.good));
       running =
           subst (λ (ss : List Statement). IsRunning c.args.script.now.statements ss c.new-held.result (g.K.Sink.took c.args.out.now) (g.K.Sink.took c.args.out.now)) (sym c.as_slice-statement-items.ensures)
@@ -37,14 +38,14 @@ loop-statement-preserved g c =
     let item = c.statement-item.result in
     let env = c.loop-statement.held in
     let next = next_statement items i item (omega (arith, c.loop-statement-test.true)) c.statement-item.is in
-    let good = subst (λ (ss : List Statement). AreGood env.side (map shape_of_known env.known) ss) next c.loop-statement.invariant.good in
+    let good = subst (λ (ss : List Statement). AreGood (most_listed env.side) (map shape_of_known env.known) ss) next c.loop-statement.invariant.good in
     let acts = c.in-Ok.ensures.acts in
     record {
       same = c.loop-statement.invariant.same;
       later = omega (arith, c.loop-statement.invariant.later, c.in-Ok.ensures.later);
       good =
-          subst (λ (later : Environment). AreGood later.side (map shape_of_known later.known) (drop (i + 1) items)) (sym acts.1)
-          (good_next env.side env item (drop (i + 1) items) good);
+          subst (λ (later : Environment). AreGood (most_listed later.side) (map shape_of_known later.known) (drop (i + 1) items)) (sym acts.1)
+          (good_next (most_listed env.side) env item (drop (i + 1) items) good);
       running =
           running_next c.args.script.now.statements item (drop (i + 1) items) env c.act.new.held (g.K.Sink.took c.args.out.now)
           (g.K.Sink.took c.loop-statement.out) (g.K.Sink.took c.act.new.out) tt
