@@ -3,10 +3,10 @@
 -- the sides of blocks
 pub use Rattle.quad_matrix.proofs.Sides.{side_low, side_twice, suc-sub_one}
 -- canonical trees: what they stand for, their roots, their children, and that they are the only ones
-pub use Rattle.quad_matrix.proofs.Canonical.{canonical_zero, block_of_canonical, canonical_of_block, nothing_is_canonical, is_there_canonical, is_there_some, peak-zeros}
+pub use Rattle.quad_matrix.proofs.Canonical.{canonical_zero, canonical_leaf, canonical_node, block_of_canonical, canonical_of_block, nothing_is_canonical, is_there_canonical, is_there_some, peak-zeros}
 pub use Rattle.quad_matrix.proofs.Roots.{root_some, root_of_leaf, root_of_node, peak_of_root, tree_peak, peak_of_tree}
-pub use Rattle.quad_matrix.proofs.Quadrants.{child_canonical, quadrants_canonical, block_of_quadrants, peak_small, any_there, join_peak, join_nothing, join_some, join_there}
-pub use Rattle.quad_matrix.proofs.Numbers.{number_of_tree, nothing_is_number, root_of_number}
+pub use Rattle.quad_matrix.proofs.Quadrants.{child_canonical, quadrants_canonical, block_of_quadrants, peak_small, any_there, join_peak, join_of, join_nothing, join_some, join_there, join_canonical, peak_of_join, block_of_join}
+pub use Rattle.quad_matrix.proofs.Numbers.{number_some, number_of_tree, nothing_is_number, root_of_number}
 pub use Rattle.quad_matrix.proofs.OnlyTrees.{canonical_stands, canonical_is_only, number_is_only}
 -- goals: canonical, the same at each side of the leaves, and by children
 pub use Rattle.quad_matrix.proofs.Lists.{spots_whole, spots_tall, assign_canonical, goal_is_canonical}
