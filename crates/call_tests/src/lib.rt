@@ -1,7 +1,11 @@
-//! Tests of the public calls of the crates below: each once on its happy path, with memory enough.
+//! Tests of the public calls of the crates below, one file for each: what no clause says.
 #![tactic(auto)]
 
 #[cfg(test)]
 mod matrix_kinds;
 #[cfg(test)]
+mod name_state_calls;
+#[cfg(test)]
 mod quad_trees;
+#[cfg(test)]
+mod task_type_calls;
