@@ -13,7 +13,11 @@ mod leaf_block_calls;
 #[cfg(test)]
 mod market_calls;
 #[cfg(test)]
+mod matrix_kinds;
+#[cfg(test)]
 mod name_state_calls;
+#[cfg(test)]
+mod quad_trees;
 #[cfg(test)]
 mod run_calls;
 #[cfg(test)]

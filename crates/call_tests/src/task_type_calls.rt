@@ -64,20 +64,25 @@ const LATER: (u64, &'static [Place]) = (0, &[Place::Chunk(1), Place::Null]);
 const FEW: (u64, &'static [Place]) = (0, &[Place::Null]);
 
 // What the outcome of a trial is found to be.
-fn is_formed(alloc: Global, trial: &Trial) -> Result<bool, Memory> {
+fn is_formed(
+    alloc: Global,
+    chunks: &[(u64, &[Place])],
+    tasks: &[&[Place]],
+    output: Place,
+) -> Result<bool, Memory> {
     let mut outcome = Outcome {
         chunks: List::new(alloc),
         tasks: List::new(alloc),
-        result: trial.output,
+        result: output,
     };
-    for (number, children) in trial.chunks {
+    for (number, children) in chunks {
         let chunk = NewChunk {
             body: body(alloc, *number)?,
             children: listed(children),
         };
         outcome.chunks.push(chunk).map_err(|_| Memory)?;
     }
-    for inputs in trial.tasks {
+    for inputs in tasks {
         let task = NewTask {
             kind: SumKind {
                 aim: Aim::Plus,
@@ -123,7 +128,7 @@ fn each_rule_of_a_formed_outcome_counts(rt: HostRuntime) -> Result<(), Fail> {
         case("an unused task", &[], &[&[], &[]], Task(1), false),
     ];
     for trial in &trials {
-        let found = is_formed(rt.alloc(), trial)?;
+        let found = is_formed(rt.alloc(), trial.chunks, trial.tasks, trial.output)?;
         assert_eq!(rt; found, trial.formed, "{}", trial.says);
     }
     Ok(())

@@ -2,7 +2,7 @@
 use Rattle.std.proofs.Common.{◌≡◌, ℕ, suc, ◌+◌, ◌-◌, ◌*◌, ◌<◌, ◌≤◌, true, false, not, ◌||◌, List, [], ◌∷◌, length, map, refl, sym, ap, ap₂, ◌∙◌, subst, arith, ne_eqb}
 use Rattle.std.specs.Prelude.{IfSome}
 use Rattle.std.specs.Option.{is_some}
-use Rattle.std.proofs.lemmas.Bool.{le-leb}
+use Rattle.std.proofs.lemmas.Bool.{false≢true, le-leb}
 use Rattle.chunk_codec.specs.declared.plain.Spot.{Spot}
 use Rattle.chunk_codec.specs.Spots.{AreSoundSpots}
 use Rattle.task_types.specs.Tree.{Tree, Root}
@@ -26,7 +26,7 @@ use Rattle.quad_matrix.specs.Goals.{kind_of, kind_at, goal_at, FitsAt}
 use Rattle.quad_matrix.specs.Matrices.{matrices}
 use Rattle.quad_matrix.specs.Plans.{plan_of}
 use Rattle.quad_matrix.specs.Portions.{listed, entries_in, portions_of}
-use Rattle.quad_matrix.proofs.ForOthers.{goal_any, half_is, has_spot, portion_of, list_tree, part_in, part_tree, part_fits, part_goal, empty_part, parts_fit_join, some_part, assign_on_parts, portion_sound}
+use Rattle.quad_matrix.proofs.ForOthers.{goal_any, half_is, has_spot, portion_of, list_tree, part_in, part_tree, part_fits, part_goal, empty_part, parts_fit_join, some_part, assign_on_parts, portions_are_sound}
 use Rattle.matrix_tasks.proofs.Joins.{shapes_open}
 use Rattle.matrix_tasks.proofs.ByPlan.{task_gives, join_gives, parts_below}
 
@@ -42,7 +42,7 @@ listed_some leaf height (spot ∷ spots) = sym (has_first spot spots)
 module _ (b h : ℕ) (whole : Entries) (sound : AreSoundEntries b (suc h) false whole) where
   -- the entries in a quadrant
   part_is : (q : ℕ) → part_in b h whole q ≡ entries_in whole q
-  part_is q = ap (λ half. part_of half q whole.list) (sym (half_is b h whole sound))
+  part_is q = ap (λ half. part_of half q whole.list) (sym (half_is b h false whole sound))
 
   -- a part gives its tree
   part_gives : (rank q : ℕ) (spots : List Spot) → h ≤ 16 → 4 * h + 1 < rank → part_in b h whole q ≡ spots
@@ -55,25 +55,11 @@ module _ (b h : ℕ) (whole : Entries) (sound : AreSoundEntries b (suc h) false 
       let fits : FitsAt b Assign h (tree ∷ []) = subst (λ (tree : Tree MatChunk). FitsAt b Assign h (tree ∷ [])) is (part_fits b h whole sound q some) in
       (refl, task_gives b Assign h rank (tree ∷ []) (part_tree b h whole q) sound.listed.leaf_high low lower fits (ap (λ (tree : Tree MatChunk). goal_at b Assign h (tree ∷ [])) (sym is) ∙ part_goal b h whole q))
 
-  -- a portion is sound
-  portion_is_sound : (q : ℕ) (spots : List Spot) → part_in b h whole q ≡ spots → IfSome (listed whole.leaf (whole.height - 1) false spots) IsSoundChunk
-  portion_is_sound q [] e = tt
-  portion_is_sound q (spot ∷ spots) e =
-      let some : 1 ≤ length (part_in b h whole q) = omega (arith, ap length e) in
-      let part = portion_sound b h whole sound q some in
-      let below : whole.height - 1 ≡ h = part.height in
-      subst (λ (spots : List Spot). AreSoundSpots whole.leaf (whole.height - 1) false spots) e
-      (subst (λ leaf. AreSoundSpots leaf (whole.height - 1) false (part_in b h whole q)) (sym sound.leaf)
-      (subst (λ low. AreSoundSpots b low false (part_in b h whole q)) (sym below) part.listed))
-
   -- the portions that an assignment takes are sound
   pub portions_sound : AreSound IsSoundChunk (portions_of whole (plan_of Assign).parts)
-  portions_sound = record {
-    first = portion_is_sound 0 (entries_in whole 0) (part_is 0);
-    second = portion_is_sound 1 (entries_in whole 1) (part_is 1);
-    third = portion_is_sound 2 (entries_in whole 2) (part_is 2);
-    fourth = portion_is_sound 3 (entries_in whole 3) (part_is 3);
-  }
+  portions_sound =
+      portions_are_sound b h false whole (plan_of Assign).parts sound
+      (record { upper_left = λ e. absurd (false≢true e); upper_right = refl; lower_left = refl; lower_right = λ e. absurd (false≢true e) })
 
   -- an entry lies in one of them
   some_chosen : (is_some (listed whole.leaf (whole.height - 1) false (entries_in whole 0)) || is_some (listed whole.leaf (whole.height - 1) false (entries_in whole 1)) || is_some (listed whole.leaf (whole.height - 1) false (entries_in whole 2)) || is_some (listed whole.leaf (whole.height - 1) false (entries_in whole 3))) ≡ true

@@ -3,17 +3,19 @@
 -- the sides of blocks
 pub use Rattle.quad_matrix.proofs.Sides.{side_low, side_twice, suc-sub_one}
 -- canonical trees: what they stand for, their roots, their children, and that they are the only ones
-pub use Rattle.quad_matrix.proofs.Canonical.{canonical_zero, block_of_canonical, canonical_of_block, nothing_is_canonical, is_there_canonical, is_there_some, peak-zeros}
+pub use Rattle.quad_matrix.proofs.Canonical.{canonical_zero, canonical_leaf, canonical_node, block_of_canonical, canonical_of_block, nothing_is_canonical, is_there_canonical, is_there_some, peak-zeros}
 pub use Rattle.quad_matrix.proofs.Roots.{root_some, root_of_leaf, root_of_node, peak_of_root, tree_peak, peak_of_tree}
-pub use Rattle.quad_matrix.proofs.Quadrants.{child_canonical, quadrants_canonical, block_of_quadrants, peak_small, any_there, join_peak, join_nothing, join_some, join_there}
-pub use Rattle.quad_matrix.proofs.Numbers.{number_of_tree, nothing_is_number, root_of_number}
+pub use Rattle.quad_matrix.proofs.Quadrants.{child_canonical, quadrants_canonical, block_of_quadrants, peak_small, any_there, join_peak, join_of, join_nothing, join_some, join_there, join_canonical, peak_of_join, block_of_join}
+pub use Rattle.quad_matrix.proofs.Numbers.{number_some, number_of_tree, nothing_is_number, root_of_number}
+pub use Rattle.quad_matrix.proofs.OnlyTrees.{canonical_stands, canonical_is_only, number_is_only}
 -- goals: canonical, the same at each side of the leaves, and by children
 pub use Rattle.quad_matrix.proofs.Lists.{spots_whole, spots_tall, assign_canonical, goal_is_canonical}
 pub use Rattle.quad_matrix.proofs.AnySide.{goal_any, assign_nothing, join_goal_nothing}
 pub use Rattle.quad_matrix.proofs.Sums.{add_canonical, fits_join, join_goal, join_fits, child_sum, add_on_children, add_is_join, add_with_nothing, add_nothing_with, add_nothing}
 pub use Rattle.quad_matrix.proofs.Numbers.{trace_first, trace_last, trace_fits, trace_on_children, trace_of_nothing, addnum_with_nothing, addnum_nothing_with, addnum_is_number}
 -- portions of lists of entries
+pub use Rattle.quad_matrix.proofs.SoundPortions.{portions_are_sound}
 pub use Rattle.quad_matrix.proofs.PartBlocks.{half_is}
 pub use Rattle.quad_matrix.proofs.ListParts.{has_spot, portion_of, list_tree, part_in, part_tree, part_fits, part_goal, empty_part, parts_fit_join, some_part, assign_on_parts, sound_at_leaf, leaf_is, portion_sound}
 -- the laws of the library
-pub use Rattle.quad_matrix.proofs.Laws.{few_matrices, matrix_works_add_up}
+pub use Rattle.quad_matrix.proofs.WorkLaws.{few_matrices, matrix_works_add_up}

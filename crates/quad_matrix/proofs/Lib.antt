@@ -14,10 +14,12 @@ pub mod DraftWorks
 pub mod AddWorks
 pub mod AssignParts
 pub mod AssignWorks
-pub mod Laws
+pub mod WorkLaws
 pub mod QuadrantSides
 pub mod Order
 pub mod PartBlocks
 pub mod Written
 pub mod ListParts
+pub mod SoundPortions
+pub mod OnlyTrees
 pub mod ForOthers

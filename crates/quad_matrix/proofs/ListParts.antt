@@ -1,6 +1,6 @@
 -- An assignment of entries is the join of the assignments of their parts.
 use Rattle.std.proofs.Common.{◌≡◌, ℕ, suc, ◌-◌, ◌≤◌, ◌||◌, Bool, false, List, [], ◌∷◌, length, not, ◌==◌, refl, sym, ap, ap₂, subst, ◌∙◌, ⊎_elim, ◌⊎◌, inl, inr, true, arith}
-use Rattle.std.proofs.lemmas.Bool.{ne_eqb, eq-eqb}
+use Rattle.std.proofs.lemmas.Bool.{false≢true, ne_eqb, eq-eqb}
 use Rattle.dense_def.specs.Matrix.{joined, peak_of}
 use Rattle.dense_def.proofs.Blocks.{joined-block, joined_same}
 use Rattle.task_types.specs.Tree.{Tree, Nothing, is_there}
@@ -62,7 +62,7 @@ module _ (b h : ℕ) (whole : Entries) (sound : AreSoundEntries b (suc h) false 
     leaf = sound.leaf;
     height = omega (arith, sound.height);
     symmetric = refl;
-    listed = part_is_sound b h q false whole.list sound.listed some;
+    listed = part_is_sound b h q false false whole.list sound.listed some (λ e. absurd (false≢true e));
   }
 
   -- an empty part has a block of zeros

@@ -15,8 +15,8 @@ use Rattle.quad_matrix.specs.declared.kind.What.{What}
 use Rattle.quad_matrix.specs.declared.kind.What.TheVariants.{Assign, Add, Join, Trace, AddNum}
 use Rattle.chunk_codec.specs.Spots.{side_of, IsSpot}
 use Rattle.quad_matrix.specs.Spots.{is_at, spot_value, block_of_spots, block_listed, AreSoundEntries}
-use Rattle.quad_matrix.specs.Blocks.{block_of, IsCanonical, IsNumber}
-use Rattle.quad_matrix.specs.Goals.{IsList, FitsAt, goal_at}
+use Rattle.quad_matrix.specs.Blocks.{block_of, IsCanonical}
+use Rattle.quad_matrix.specs.Goals.{IsList, FitsAt, goal_at, IsOutput}
 use Rattle.quad_matrix.proofs.Canonical.{canonical_of_block, nothing_is_canonical}
 use Rattle.quad_matrix.proofs.Sums.{add_canonical, join_goal_canonical}
 use Rattle.quad_matrix.proofs.Numbers.{zero_from_abs, trace_is_number, addnum_is_number}
@@ -94,15 +94,7 @@ list_some b h (chunk.Num n) x y z w is flat = is
 pub assign_canonical : (b h : ℕ) (x : Tree MatChunk) → FitsAt b Assign h (x ∷ []) → IsCanonical b h (goal_at b Assign h (x ∷ []))
 assign_canonical b h x fits = canonical_of_block b h (block_of b h x) (block_of_list b h x fits)
 
--- what the goal of a kind is: a canonical tree or one of a number
-abbrev pub IsOutput : ℕ → What → ℕ → Tree MatChunk → Type 0
-IsOutput b Trace h tree = IsNumber tree
-IsOutput b AddNum h tree = IsNumber tree
-IsOutput b Assign h tree = IsCanonical b h tree
-IsOutput b Add h tree = IsCanonical b h tree
-IsOutput b Join h tree = IsCanonical b h tree
-
--- the goal of a kind is such a tree
+-- the goal of a kind is a canonical tree or one of a number
 pub goal_is_canonical : (b : ℕ) (what : What) (h : ℕ) (trees : List (Tree MatChunk)) → FitsAt b what h trees → IsOutput b what h (goal_at b what h trees)
 goal_is_canonical b Assign h (x ∷ []) fits = assign_canonical b h x fits
 goal_is_canonical b Assign h [] fits = absurd fits

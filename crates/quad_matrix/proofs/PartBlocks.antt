@@ -1,21 +1,21 @@
 -- The parts of a list of entries by quadrant, and the quadrants of its block.
-use Rattle.std.proofs.Common.{◌≡◌, ℕ, suc, ◌+◌, ◌-◌, ◌<◌, ◌≤◌, Bool, true, false, ◌&&◌, ◌==◌, nat_le, cond, ℤ, List, [], ◌∷◌, ◌++◌, length, get_or, take, map, refl, sym, ap, ap₂, ◌∙◌, arith, zero-add}
+use Rattle.std.proofs.Common.{◌≡◌, ℕ, suc, ◌+◌, ◌-◌, ◌<◌, ◌≤◌, Bool, true, false, IsTrue, All, ◌&&◌, ◌==◌, nat_le, cond, ℤ, List, [], ◌∷◌, ◌++◌, length, get_or, take, map, refl, sym, ap, ap₂, ◌∙◌, arith, zero-add}
 use mathlib.Core.Bool.{beq}
 use Rattle.std.specs.List.{filter}
-use Rattle.std.proofs.lemmas.Bool.{cond_both, false≢true}
+use Rattle.std.proofs.lemmas.Bool.{cond_both}
 use Rattle.std.proofs.lemmas.List.{map-append}
-use Rattle.std.proofs.lemmas.List.Elements.{All-weaker, All-map, All-filter, filter_more}
+use Rattle.std.proofs.lemmas.List.Elements.{All-weaker, All-map, All-filter, filter_more, filter_passes}
 use Rattle.dense_def.specs.Matrix.{entry, block}
 use Rattle.dense_def.proofs.Entries.{made_ext}
 use Rattle.chunk_codec.specs.declared.plain.Spot.{Spot}
 use Rattle.quad_matrix.specs.declared.chunk.Entries.{Entries}
-use Rattle.chunk_codec.specs.Spots.{side_of, IsSpot, AreSoundSpots}
+use Rattle.chunk_codec.specs.Spots.{side_of, IsSpot, IsUpper, AreSoundSpots}
 use Rattle.quad_matrix.specs.Spots.{is_at, spot_value, block_of_spots, AreSoundEntries, quadrant_of, moved, part_of}
 use Rattle.quad_matrix.specs.Blocks.{upper_left, upper_right, lower_left, lower_right}
 use Rattle.quad_matrix.proofs.Sides.{side_twice}
 use Rattle.quad_matrix.proofs.Lists.{entry-spots}
 use Rattle.quad_matrix.specs.Quarters.{quarters_of, followed}
-use Rattle.quad_matrix.proofs.QuadrantSides.{quadrant_at, shifted, shifted_is, relative_inside}
+use Rattle.quad_matrix.proofs.QuadrantSides.{quadrant_at, upper_stays, shifted, shifted_is, relative_inside}
 use Rattle.quad_matrix.proofs.Order.{part_rises}
 
 -- ---- A part, entry by entry
@@ -110,9 +110,9 @@ part_is_short half q (spot ∷ spots) =
     cond_both (quadrant_of half spot == q) (spot ∷ filter (λ (spot : Spot). quadrant_of half spot == q) spots) (filter (λ (spot : Spot). quadrant_of half spot == q) spots) (λ (kept : List Spot). length (map (moved half) kept) ≤ length (spot ∷ spots))
     (λ e. omega (arith, part_is_short half q spots)) (λ e. omega (arith, part_is_short half q spots))
 
--- a part of sound entries of a general block that is not empty is sound
-pub part_is_sound : (b h q : ℕ) (mirrored : Bool) (spots : List Spot) → AreSoundSpots b (suc h) mirrored spots → 1 ≤ length (part_of (side_of b h) q spots) → AreSoundSpots b h false (part_of (side_of b h) q spots)
-part_is_sound b h q mirrored spots sound some =
+-- a part of sound entries that is not empty is sound
+pub part_is_sound : (b h q : ℕ) (mirrored triangle : Bool) (spots : List Spot) → AreSoundSpots b (suc h) mirrored spots → 1 ≤ length (part_of (side_of b h) q spots) → (IsTrue triangle → All IsUpper (part_of (side_of b h) q spots)) → AreSoundSpots b h triangle (part_of (side_of b h) q spots)
+part_is_sound b h q mirrored triangle spots sound some upper =
     let half = side_of b h in
     let lies = λ (spot : Spot). quadrant_of half spot == q in
     record {
@@ -125,9 +125,20 @@ part_is_sound b h q mirrored spots sound some =
       spots = All-map (IsSpot half) (moved half) (filter lies spots)
           (All-filter lies (λ spot. IsSpot half (moved half spot)) spots
           (All-weaker (IsSpot (side_of b (suc h))) (λ spot. IsSpot half (moved half spot)) (λ spot is. moved_spot half (side_of b (suc h)) spot (side_twice b h) is) spots sound.spots));
-      upper = λ e. absurd (false≢true e);
+      upper = upper;
     }
 
+-- in a quadrant on the diagonal an entry on the diagonal or above it stays so
+moved_upper : (half : ℕ) (below : Bool) (spot : Spot) → (quadrant_of half spot == quadrant_at below below) ≡ true → IsUpper spot → IsUpper (moved half spot)
+moved_upper half below spot lies upper = upper_stays half spot.row spot.column below lies upper
+
+-- so an upper triangle has upper triangles on its diagonal
+pub part_is_upper : (half : ℕ) (below : Bool) (spots : List Spot) → All IsUpper spots → All IsUpper (part_of half (quadrant_at below below) spots)
+part_is_upper half below spots all =
+    let lies = λ (spot : Spot). quadrant_of half spot == quadrant_at below below in
+    All-map IsUpper (moved half) (filter lies spots)
+    (λ k d h. moved_upper half below (get_or (filter lies spots) k d) (filter_passes lies spots k d h) (All-filter lies IsUpper spots all k d h))
+
 -- the side of the quadrants, as the entries give it
-pub half_is : (b h : ℕ) (e : Entries) → AreSoundEntries b (suc h) false e → side_of e.leaf (e.height - 1) ≡ side_of b h
-half_is b h e sound = ap₂ side_of sound.leaf (omega (arith, sound.height))
+pub half_is : (b h : ℕ) (mirrored : Bool) (e : Entries) → AreSoundEntries b (suc h) mirrored e → side_of e.leaf (e.height - 1) ≡ side_of b h
+half_is b h mirrored e sound = ap₂ side_of sound.leaf (omega (arith, sound.height))

@@ -1,5 +1,5 @@
 -- The tests by which an entry finds its quadrant.
-use Rattle.std.proofs.Common.{◌≡◌, ℕ, ◌+◌, ◌<◌, Bool, true, false, ◌&&◌, ◌==◌, nat_le, cond, arith}
+use Rattle.std.proofs.Common.{◌≡◌, ℕ, ◌+◌, ◌<◌, ◌≤◌, Bool, true, false, ◌&&◌, ◌==◌, nat_le, cond, arith}
 use mathlib.Core.Bool.{beq}
 use Rattle.std.proofs.lemmas.Bool.Decides.{nat_tests}
 use Rattle.quad_matrix.specs.Spots.{relative}
@@ -28,3 +28,8 @@ relative_below half r s same h = grind (arith, nat_tests)
 -- an index of the whole lies in the half that it is relative to
 pub relative_inside : (half r : ℕ) → r < half + half → relative half r < half
 relative_inside half r h = grind (arith, nat_tests)
+
+-- in a quadrant on the diagonal an index that is not above another stays so
+pub upper_stays : (half r c : ℕ) (below : Bool) → (quadrant_at (nat_le half r) (nat_le half c) == quadrant_at below below) ≡ true → r ≤ c → relative half r ≤ relative half c
+upper_stays half r c true same h = grind (arith, nat_tests)
+upper_stays half r c false same h = grind (arith, nat_tests)

@@ -74,6 +74,14 @@ pub record IsDefined (kind : MatKind) (trees : List (Tree MatChunk)) : Type 0 wh
   pub leaf_high : leaf ≤ 64
   pub fits : FitsAt leaf kind.what kind.height trees
 
+-- what the goal of a kind is: a canonical tree, or the tree of a number
+abbrev pub IsOutput : ℕ → What → ℕ → Tree MatChunk → Type 0
+IsOutput b Assign h tree = IsCanonical b h tree
+IsOutput b Add h tree = IsCanonical b h tree
+IsOutput b Join h tree = IsCanonical b h tree
+IsOutput b Trace h tree = IsNumber tree
+IsOutput b AddNum h tree = IsNumber tree
+
 -- ---- Ranks
 
 -- the rank of what is computed at a height

@@ -8,3 +8,4 @@ pub mod Works
 pub mod Matrices
 pub mod Quarters
 pub mod Portions
+pub mod Laws

@@ -1,5 +1,5 @@
 -- The portions of a list of entries.
-use Rattle.std.specs.Prelude.{ℕ, ◌-◌, Bool, false, ◌&&◌, ◌==◌, Option, None, Some, List, [], ◌∷◌}
+use Rattle.std.specs.Prelude.{◌≡◌, ℕ, ◌-◌, Bool, true, false, ◌&&◌, ◌==◌, Option, None, Some, List, [], ◌∷◌}
 use Rattle.std.specs.List.{list_any}
 use Rattle.chunk_codec.specs.declared.plain.Spot.{Spot}
 use Rattle.chunk_codec.specs.Spots.{side_of}
@@ -47,3 +47,10 @@ portions_of entries parts =
       third = portion_at entries parts 2;
       fourth = portion_at entries parts 3;
     }
+
+-- the parts take as upper triangles only portions on the diagonal, and those only of the list of a symmetric block
+pub record TakeMirrored (mirrored : Bool) (parts : List (Part What)) : Type 0 where
+  pub upper_left : is_mirrored parts 0 ≡ true → mirrored ≡ true
+  pub upper_right : is_mirrored parts 1 ≡ false
+  pub lower_left : is_mirrored parts 2 ≡ false
+  pub lower_right : is_mirrored parts 3 ≡ true → mirrored ≡ true

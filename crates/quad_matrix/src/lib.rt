@@ -5,9 +5,11 @@
 mod chunk;
 mod entries;
 mod kind;
+mod laws;
 mod plan;
 
 pub use chunk::{Entries, MatChunk};
 pub use chunk_codec::Spot;
 pub use entries::{leaf_block, portions};
 pub use kind::{MatKind, What};
+pub use laws::{canonical_children, canonical_trees, goals, number_trees, sound_portions, works};

@@ -1,0 +1,93 @@
+-- The laws of quadtrees, as statements. The functions of `laws` carry each as their contract.
+use Rattle.std.specs.Prelude.{◌≡◌, ℕ, suc, Bool, List, ℤ}
+use Rattle.dense_def.specs.Matrix.{Matrix, joined, peak_of}
+use Rattle.leaf_blocks.specs.Block.{IsBlock}
+use Rattle.chunk_codec.specs.Spots.{side_of}
+use Rattle.task_types.specs.Tree.{Tree, Nothing, Root, child}
+use Rattle.task_types.specs.Sound.{HasFewInputs, AddsUp}
+use Rattle.task_plans.specs.declared.plan.Part.{Part}
+use Rattle.task_plans.specs.Portions.{AreSound}
+use Rattle.quad_matrix.specs.declared.chunk.MatChunk.{MatChunk}
+use Rattle.quad_matrix.specs.declared.chunk.Entries.{Entries}
+use Rattle.quad_matrix.specs.declared.kind.What.{What}
+use Rattle.quad_matrix.specs.Chunks.{arity_of, IsSoundChunk, peak_in}
+use Rattle.quad_matrix.specs.Spots.{AreSoundEntries}
+use Rattle.quad_matrix.specs.Blocks.{block_of, number_of, canonical, number_tree, IsCanonical, IsNumber}
+use Rattle.quad_matrix.specs.Goals.{kind_of, goal_at, goal_of, FitsAt, IsOutput}
+use Rattle.quad_matrix.specs.Portions.{portions_of, TakeMirrored}
+use Rattle.quad_matrix.specs.Matrices.{matrices}
+
+-- ---- Canonical trees
+
+-- the canonical tree of a block stands for the block
+abbrev pub CanonicalStands : Type 0
+CanonicalStands = (b h : ℕ) (m : Matrix) → IsBlock (side_of b h) m → block_of b h (canonical b h m) ≡ m
+
+-- and is canonical
+abbrev pub CanonicalIsSo : Type 0
+CanonicalIsSo = (b h : ℕ) (m : Matrix) → IsBlock (side_of b h) m → IsCanonical b h (canonical b h m)
+
+-- canonical trees of one block are one
+abbrev pub CanonicalIsOnly : Type 0
+CanonicalIsOnly =
+    (b h : ℕ) (one other : Tree MatChunk) → IsCanonical b h one → IsCanonical b h other → block_of b h one ≡ block_of b h other
+    → one ≡ other
+
+-- nothing is canonical
+abbrev pub NothingIsCanonical : Type 0
+NothingIsCanonical = (b h : ℕ) → IsCanonical b h Nothing
+
+-- the children of a canonical tree are canonical
+abbrev pub ChildrenAreCanonical : Type 0
+ChildrenAreCanonical = (b h : ℕ) (tree : Tree MatChunk) → IsCanonical b (suc h) tree → (q : ℕ) → IsCanonical b h (child tree q)
+
+-- and their blocks are the quadrants of its block
+abbrev pub ChildrenAreQuadrants : Type 0
+ChildrenAreQuadrants =
+    (b h : ℕ) (tree : Tree MatChunk) → IsCanonical b (suc h) tree
+    → block_of b (suc h) tree ≡ joined (block_of b h (child tree 0)) (block_of b h (child tree 1)) (block_of b h (child tree 2)) (block_of b h (child tree 3))
+
+-- the peak in the root of a canonical tree is the peak of its block
+abbrev pub RootHasPeak : Type 0
+RootHasPeak =
+    (b h : ℕ) (content : MatChunk) (x y z w : Tree MatChunk) → IsCanonical b h (Root content x y z w)
+    → peak_in content ≡ peak_of (block_of b h (Root content x y z w))
+
+-- ---- Numbers
+
+-- the tree of a number stands for it
+abbrev pub NumberStands : Type 0
+NumberStands = (n : ℤ) → number_of (number_tree n) ≡ n
+
+-- trees of one number are one
+abbrev pub NumberIsOnly : Type 0
+NumberIsOnly = (one other : Tree MatChunk) → IsNumber one → IsNumber other → number_of one ≡ number_of other → one ≡ other
+
+-- ---- Goals and works
+
+-- the goal of a kind is a canonical tree, or the tree of a number
+abbrev pub GoalsAreCanonical : Type 0
+GoalsAreCanonical =
+    (b : ℕ) (what : What) (h : ℕ) (trees : List (Tree MatChunk)) → FitsAt b what h trees → IsOutput b what h (goal_at b what h trees)
+
+-- the goal of a kind is the one at each side of the leaves at which the trees fit
+abbrev pub GoalsHaveNoSide : Type 0
+GoalsHaveNoSide =
+    (b : ℕ) (what : What) (h : ℕ) (trees : List (Tree MatChunk)) → FitsAt b what h trees
+    → goal_of (kind_of what h) trees ≡ goal_at b what h trees
+
+-- goals are defined for at most four inputs
+abbrev pub GoalsHaveFewInputs : Type 0
+GoalsHaveFewInputs = HasFewInputs matrices
+
+-- works add up: at a sound outcome the work of a kind is one more than those of the new tasks
+abbrev pub WorksAddUp : Type 0
+WorksAddUp = AddsUp arity_of matrices
+
+-- ---- Portions
+
+-- the portions of a sound list are sound, where parts take only portions on the diagonal as upper triangles
+abbrev pub PortionsAreSound : Type 0
+PortionsAreSound =
+    (b h : ℕ) (mirrored : Bool) (entries : Entries) (parts : List (Part What)) → AreSoundEntries b (suc h) mirrored entries
+    → TakeMirrored mirrored parts → AreSound IsSoundChunk (portions_of entries parts)

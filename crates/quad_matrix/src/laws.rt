@@ -1,0 +1,42 @@
+//! The laws of quadtrees. Each function does nothing: its contract is the law, which `specs/Laws.antt` states, and a proof above cites
+//! the lemma of `proofs/ForOthers.antt` behind it.
+
+ghost use Rattle.quad_matrix.specs.Laws.{CanonicalStands, CanonicalIsSo, CanonicalIsOnly, NothingIsCanonical, ChildrenAreCanonical, ChildrenAreQuadrants, RootHasPeak, NumberStands, NumberIsOnly, GoalsAreCanonical, GoalsHaveNoSide, GoalsHaveFewInputs, WorksAddUp, PortionsAreSound};
+
+/// The canonical tree of a block stands for it and is the only one.
+pub fn canonical_trees()
+    ensures stands { CanonicalStands }
+    ensures canonical { CanonicalIsSo }
+    ensures only { CanonicalIsOnly }
+    ensures nothing { NothingIsCanonical }
+{}
+
+/// The children of a canonical tree are the canonical trees of its quadrants, and its root has its peak.
+pub fn canonical_children()
+    ensures children { ChildrenAreCanonical }
+    ensures quadrants { ChildrenAreQuadrants }
+    ensures peak { RootHasPeak }
+{}
+
+/// The tree of a number stands for it and is the only one.
+pub fn number_trees()
+    ensures stands { NumberStands }
+    ensures only { NumberIsOnly }
+{}
+
+/// Goals are canonical, and don't hang on the side of the leaves.
+pub fn goals()
+    ensures canonical { GoalsAreCanonical }
+    ensures no_side { GoalsHaveNoSide }
+    ensures few_inputs { GoalsHaveFewInputs }
+{}
+
+/// Works add up.
+pub fn works()
+    ensures { WorksAddUp }
+{}
+
+/// Portions of sound lists are sound.
+pub fn sound_portions()
+    ensures { PortionsAreSound }
+{}
