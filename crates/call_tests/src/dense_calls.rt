@@ -18,7 +18,12 @@ fn matrix(alloc: Global, entries: &[i128]) -> Result<Dense, AllocError>
 fn shows(found: &Dense, entries: [i128; 4]) -> bool {
     found.rows() == 2
         && found.columns() == 2
-        && [found.at(0, 0), found.at(0, 1), found.at(1, 0), found.at(1, 1)] == entries
+        && [
+            found.at(0, 0),
+            found.at(0, 1),
+            found.at(1, 0),
+            found.at(1, 1),
+        ] == entries
 }
 
 #[test]

@@ -1,7 +1,7 @@
 //! The small types of `cht_ids`.
 use cht_ids::{
-    Counter, Id, LIMIT, List, Memory, Ref, Short, Unpack, cut_line, cut_word, fits_product, fits_sum,
-    read_number, read_ref, write_number, write_ref,
+    Counter, Id, LIMIT, List, Memory, Ref, Short, Unpack, cut_line, cut_word, fits_product,
+    fits_sum, read_number, read_ref, write_number, write_ref,
 };
 use std::alloc::AllocError;
 use std::test::Fail;
@@ -19,7 +19,10 @@ fn numbers_and_references_are_texts(rt: HostRuntime) {
         owner: 12,
         number: 18446744073709551616,
     });
-    assert_eq!(rt; write_ref(id).as_bytes(), b"12:18446744073709551616".as_slice());
+    assert_eq!(rt;
+        write_ref(id).as_bytes(),
+        b"12:18446744073709551616".as_slice()
+    );
     assert_eq!(rt; read_ref(b"12:18446744073709551616"), Some(id));
     assert_eq!(rt; read_ref(b"-"), Some(Ref::Null));
     assert_eq!(rt; read_ref(b"0:01"), None);

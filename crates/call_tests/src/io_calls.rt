@@ -38,10 +38,7 @@ fn a_source_gives_pieces(rt: HostRuntime) -> Result<(), Fail> {
 #[test]
 fn a_full_sink_fails(rt: HostRuntime) -> Result<(), Fail> {
     // The room, what `write_all` of five bytes answers, what the sink then has, and its count.
-    for (room, answer, taken, faults) in [
-        (5, Ok(()), "hello", 0),
-        (4, Err(Failed), "hell", 1),
-    ] {
+    for (room, answer, taken, faults) in [(5, Ok(()), "hello", 0), (4, Err(Failed), "hell", 1)] {
         let mut sink = ListSink::new(rt.alloc(), room)?;
         assert_eq!(rt; write_all(&mut sink, b"hello"), answer, "at room {room}");
         is_text(&rt, sink.taken(), taken);

@@ -23,8 +23,7 @@ impl Sink for Counted {
     }
 }
 
-const TEXT: &[u8] =
-    b"%%MatrixMarket matrix coordinate integer general\n2 2 2\n1 1 3\n2 1 -4\n";
+const TEXT: &[u8] = b"%%MatrixMarket matrix coordinate integer general\n2 2 2\n1 1 3\n2 1 -4\n";
 
 #[test]
 fn a_matrix_is_read_and_written(rt: HostRuntime) -> Result<(), Fail> {
@@ -56,7 +55,10 @@ fn a_matrix_is_read_and_written(rt: HostRuntime) -> Result<(), Fail> {
     ];
     for (room, answer) in [(68, Ok(())), (67, Err(Failed)), (50, Err(Failed))] {
         let mut sink = ListSink::new(rt.alloc(), room)?;
-        assert_eq!(rt; write_market(&mut sink, Form::General, 2, 2, &cells), answer);
+        assert_eq!(rt;
+            write_market(&mut sink, Form::General, 2, 2, &cells),
+            answer
+        );
         assert_eq!(rt; sink.taken(), &TEXT[..room as usize]);
     }
     Ok(())

@@ -10,12 +10,14 @@ fn statements_are_read(rt: HostRuntime) -> Result<(), Fail> {
     let script = read_script(rt.alloc(), text)?.ok_or("a script")?;
     assert_eq!(rt; [script.grid, script.leaf, script.height], [4095, 64, 6]);
     assert_eq!(rt; script.statements.len(), 3);
-    let Some(Statement::Act {
-        line,
-        verb,
-        names,
-        inputs,
-    }) = script.statements.get(2)
+    let Some(
+        Statement::Act {
+            line,
+            verb,
+            names,
+            inputs,
+        },
+    ) = script.statements.get(2)
     else {
         return Err("a verb".into());
     };

@@ -6,8 +6,8 @@ ghost use Rattle.cht_script.specs.Reading.{name_bytes, IsGoodMarket, matrix_of_m
 ghost use Rattle.cht_run.specs.Listed.{most_listed};
 ghost use Rattle.cht_run.specs.Held.{with_matrix, matrix_at, form_at, IsBoundSum, IsTraceOf};
 
-use crate::held_matrix::{HeldMatrix, listed, sum, trace};
 use crate::cells::cells_in;
+use crate::held_matrix::{HeldMatrix, listed, sum, trace};
 use cht_ids::Memory;
 use cht_script::Name;
 use mm_text::{Cell, Form, Market};

@@ -10,8 +10,8 @@ ghost use Rattle.cht_script.specs.Steps.{words_told, new_told, IsFresh};
 ghost use Rattle.cht_script.specs.Progress.{are_sound, items_after, IsTaken, IsStopped, HasRoom, HasPlace, IsReadTo, AreStatementsOf};
 
 use crate::acts::{Accepted, accept};
-use crate::known_names::KnownNames;
 use crate::heading::Heading;
+use crate::known_names::KnownNames;
 use crate::script::{Name, Statement, Verb};
 use crate::shape::Shape;
 use crate::statement::{Said, Words, said_in};
