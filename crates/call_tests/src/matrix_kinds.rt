@@ -293,7 +293,10 @@ fn sums_take_the_children_that_are_there(rt: HostRuntime) -> Result<(), Fail> {
 #[test]
 fn traces_go_along_the_diagonal(rt: HostRuntime) -> Result<(), Fail> {
     let alloc = rt.alloc();
-    assert_eq!(rt; trace(alloc, 0, leaf(alloc, -4)?)?.as_str(), "num -4; Chunk(0)");
+    assert_eq!(rt;
+        trace(alloc, 0, leaf(alloc, -4)?)?.as_str(),
+        "num -4; Chunk(0)"
+    );
     let squares = [
         (
             [1, 9, 9, 2],
