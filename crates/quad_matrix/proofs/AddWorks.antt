@@ -17,7 +17,7 @@ use Rattle.quad_matrix.specs.Plans.{plan_of}
 use Rattle.quad_matrix.specs.Works.{asked, work_of, add_work, trace_work, pair_works}
 use Rattle.task_types.specs.declared.outcome.Place.TheVariants.{Child}
 use Rattle.quad_matrix.proofs.Sides.{suc-sub_one}
-use Rattle.task_plans.proofs.DraftWorks.{either_work, either_null, ended_work}
+use Rattle.task_plans.proofs.ForOthers.{either_work, either_null, ended_work}
 use Rattle.quad_matrix.proofs.DraftWorks.{total, draft_work}
 
 -- no part is there where none of four is

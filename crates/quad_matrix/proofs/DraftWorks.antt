@@ -8,7 +8,7 @@ use Rattle.quad_matrix.specs.declared.kind.MatKind.{MatKind}
 use Rattle.quad_matrix.specs.Works.{work_of}
 use Rattle.quad_matrix.specs.Matrices.{matrices}
 use Rattle.task_plans.specs.Plans.{Draft}
-use Rattle.task_plans.proofs.DraftWorks as works
+use Rattle.task_plans.proofs.ForOthers as works
 
 -- the work of a call
 abbrev pub call_work : Call MatChunk MatKind → ℕ

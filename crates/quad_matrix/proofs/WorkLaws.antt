@@ -27,7 +27,7 @@ use Rattle.quad_matrix.specs.Matrices.{matrices}
 use Rattle.quad_matrix.proofs.Sides.{suc-sub_one}
 use Rattle.quad_matrix.proofs.Canonical.{peak-zeros}
 use Rattle.quad_matrix.proofs.Leaves.{leaf_of_list}
-use Rattle.task_plans.proofs.DraftWorks.{one_of_cond, one_of_one, one_of_same, one_of_choices}
+use Rattle.task_plans.proofs.ForOthers.{one_of_cond, one_of_one, one_of_same, one_of_choices}
 use Rattle.quad_matrix.proofs.DraftWorks.{total}
 use Rattle.quad_matrix.proofs.AddWorks.{add_works, trace_works}
 use Rattle.quad_matrix.proofs.AssignParts.{assign_shape}
