@@ -1,18 +1,21 @@
-use chunk_codec::{Plain, Spot, pack, unpack};
 use cht_ids::{List, Unpack};
+use chunk_codec::{Plain, Spot, pack, unpack};
 use std::alloc::Global;
 use std::test::Fail;
 
 const NUM: [u8; 17] = [6, 0, 0, 0, 0, 0, 0, 0, 0, 0, 0, 0, 0, 0, 0, 0, 3];
+
 const NODE: [u8; 18] = [2, 1, 0, 0, 0, 0, 0, 0, 0, 0, 0, 0, 0, 0, 0, 0, 0, 4];
+
 const LEAF: [u8; 82] = [
-    1, 2, 0, 0, 0, 0, 0, 0, 0, 0, 0, 0, 0, 0, 0, 0, 0, 4, 0, 0, 0, 0, 0, 0, 0, 0, 0, 0, 0, 0, 0, 0, 0, 3, 0, 0, 0, 0,
-    0, 0, 0, 0, 0, 0, 0, 0, 0, 0, 0, 0, 255, 255, 255, 255, 255, 255, 255, 255, 255, 255, 255, 255, 255, 255, 255, 252,
-    0, 0, 0, 0, 0, 0, 0, 0, 0, 0, 0, 0, 0, 0, 0, 0,
+    1, 2, 0, 0, 0, 0, 0, 0, 0, 0, 0, 0, 0, 0, 0, 0, 0, 4, 0, 0, 0, 0, 0, 0, 0, 0, 0, 0, 0, 0, 0, 0,
+    0, 3, 0, 0, 0, 0, 0, 0, 0, 0, 0, 0, 0, 0, 0, 0, 0, 0, 255, 255, 255, 255, 255, 255, 255, 255,
+    255, 255, 255, 255, 255, 255, 255, 252, 0, 0, 0, 0, 0, 0, 0, 0, 0, 0, 0, 0, 0, 0, 0, 0,
 ];
+
 const ENTRIES: [u8; 40] = [
-    5, 2, 1, 0, 0, 0, 0, 2, 0, 0, 0, 0, 0, 0, 0, 0, 0, 0, 0, 0, 0, 0, 0, 3, 0, 0, 0, 1, 0, 0, 0, 0, 255, 255, 255, 255,
-    255, 255, 255, 252,
+    5, 2, 1, 0, 0, 0, 0, 2, 0, 0, 0, 0, 0, 0, 0, 0, 0, 0, 0, 0, 0, 0, 0, 3, 0, 0, 0, 1, 0, 0, 0, 0,
+    255, 255, 255, 255, 255, 255, 255, 252,
 ];
 
 // What the bytes are read as, in words: the form, and its numbers.
@@ -20,16 +23,24 @@ fn told(alloc: Global, bytes: &[u8]) -> Result<String, Fail> {
     match unpack(alloc, bytes) {
         Err(Unpack::NotChunk) => Ok(String::from_str(alloc, "no chunk")?),
         Err(Unpack::Memory) => Ok(String::from_str(alloc, "memory")?),
-        Ok(Plain::Leaf { side, entries }) => Ok(format!(in alloc; "leaf {side} {:?}", entries.as_slice())?),
+        Ok(Plain::Leaf { side, entries }) => Ok(format!(in alloc;
+            "leaf {side} {:?}",
+            entries.as_slice()
+        )?),
         Ok(Plain::Node { height, peak }) => Ok(format!(in alloc; "node {height} {peak}")?),
-        Ok(Plain::SymLeaf { side, entries }) => Ok(format!(in alloc; "sym leaf {side} {:?}", entries.as_slice())?),
+        Ok(Plain::SymLeaf { side, entries }) => Ok(format!(in alloc;
+            "sym leaf {side} {:?}",
+            entries.as_slice()
+        )?),
         Ok(Plain::SymNode { height, peak }) => Ok(format!(in alloc; "sym node {height} {peak}")?),
-        Ok(Plain::Entries {
-            leaf,
-            height,
-            symmetric,
-            list,
-        }) => Ok(format!(in alloc; "entries {leaf} {height} {symmetric} {:?}", list.as_slice())?),
+        Ok(
+            Plain::Entries {
+                leaf,
+                height,
+                symmetric,
+                list,
+            },
+        ) => Ok(format!(in alloc; "entries {leaf} {height} {symmetric} {:?}", list.as_slice())?),
         Ok(Plain::Num { value }) => Ok(format!(in alloc; "num {value}")?),
     }
 }
@@ -67,7 +78,11 @@ fn fronts_of_bytes_and_longer_bytes_are_no_chunk(rt: HostRuntime) -> Result<(), 
     let examples: [&[u8]; 4] = [&NUM, &NODE, &LEAF, &ENTRIES];
     for bytes in examples {
         for len in 0..bytes.len() {
-            assert_eq!(rt; told(rt.alloc(), &bytes[..len])?.as_str(), "no chunk", "{len}");
+            assert_eq!(rt;
+                told(rt.alloc(), &bytes[..len])?.as_str(),
+                "no chunk",
+                "{len}"
+            );
         }
         let mut more = bytes.to_vec(rt.alloc())?;
         more.push(0)?;
@@ -90,8 +105,16 @@ fn chunks_are_packed(rt: HostRuntime) -> Result<(), Fail> {
     };
     assert_eq!(rt; pack(alloc, &leaf)?.as_slice(), LEAF.as_slice());
     let spots = [
-        Spot { row: 0, column: 0, value: 3 },
-        Spot { row: 1, column: 0, value: -4 },
+        Spot {
+            row: 0,
+            column: 0,
+            value: 3,
+        },
+        Spot {
+            row: 1,
+            column: 0,
+            value: -4,
+        },
     ];
     let entries = Plain::Entries {
         leaf: 2,

@@ -2,8 +2,10 @@
 #![tactic(auto)]
 
 #[cfg(test)]
-mod chunk_codec;
-#[cfg(test)]
 mod cht_load;
 #[cfg(test)]
 mod cht_words;
+#[cfg(test)]
+mod chunk_cache;
+#[cfg(test)]
+mod chunk_codec;
