@@ -3,6 +3,10 @@
 #![tactic(auto)]
 
 #[cfg(test)]
+mod cache_calls;
+#[cfg(test)]
+mod codec_calls;
+#[cfg(test)]
 mod dense_calls;
 #[cfg(test)]
 mod id_calls;
@@ -10,6 +14,8 @@ mod id_calls;
 mod io_calls;
 #[cfg(test)]
 mod leaf_block_calls;
+#[cfg(test)]
+mod load_calls;
 #[cfg(test)]
 mod market_calls;
 #[cfg(test)]
@@ -26,3 +32,5 @@ mod script_calls;
 mod store_calls;
 #[cfg(test)]
 mod task_type_calls;
+#[cfg(test)]
+mod word_calls;

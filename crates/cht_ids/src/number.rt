@@ -60,9 +60,11 @@ pub(crate) fn read_plain(digits: &[u8]) -> Option<u128>
     }
 }
 
+/// The number below 2^128 that digits spell, without a sign: one ASCII digit or more, with zeros before others allowed. `None`
+/// exactly where the word is no such numeral.
 // Numbers of up to 19 digits take the fast way of 64 bits.
 #[tactic(auto, using(crate::proofs::NumberRules::bounds))]
-fn read_unsigned(digits: &[u8]) -> Option<u128>
+pub fn read_unsigned(digits: &[u8]) -> Option<u128>
     ensures { result ≡ unsigned_below (2 ^ 128) digits.now }
 {
     if digits.len() < 20 {

@@ -1,2 +1,5 @@
 pub mod Spots
 pub mod Sound
+pub mod Bytes
+pub mod Parts
+pub mod Laws

@@ -1,5 +1,5 @@
 -- Blocks as lists of entries. Rows and columns count from 0.
-use Rattle.std.specs.Prelude.{◌≡◌, ℕ, ◌*◌, ◌^◌, ◌<◌, ◌≤◌, max, Bool, true, ◌&&◌, ◌||◌, ◌==◌, nat_lt, IsTrue, List, [], ◌∷◌, length, All, ℤ, pos, ◌<ℤ◌, unsigned_abs}
+use Rattle.std.specs.Prelude.{◌≡◌, ℕ, ◌*◌, ◌^◌, ◌<◌, ◌≤◌, max, Bool, true, ◌&&◌, ◌||◌, ◌==◌, nat_lt, IsTrue, List, [], ◌∷◌, length, All, pos, ◌<ℤ◌, unsigned_abs}
 use Rattle.chunk_codec.specs.declared.plain.Spot.{Spot}
 
 -- the side of a block whose leaves have side b, and which has h levels above them

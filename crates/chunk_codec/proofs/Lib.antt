@@ -1,0 +1,5 @@
+pub mod BigEndian
+pub mod Same
+pub mod Order
+pub mod Reading
+pub mod Fronts
