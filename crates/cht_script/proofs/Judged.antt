@@ -11,7 +11,7 @@ use Rattle.cht_script.specs.declared.script.Verb.TheVariants.{Copy, Add, Mul, TM
 use Rattle.cht_script.specs.Words.{is_name}
 use Rattle.cht_script.specs.Statements.{Said, Market, Act, said_in, act_with, names_after, verb_named, is_square, shapes_fit, forms_fit}
 use Rattle.cht_script.specs.Items.{Item, Line, Block, fault_at}
-use Rattle.cht_script.specs.Verdict.{NamedShape, is_known, shape_in, deleted_by_verb, deleted_by_line, deleted_by, deleted_after, word_rules, name_rules_behind, name_rules, is_run_verb, is_run_said, is_run, line_code, item_fault}
+use Rattle.cht_script.specs.Verdict.{NamedShape, is_known, shape_in, deleted_by_verb, deleted_by_line, deleted_by, deleted_after, word_rules, name_rules, is_run_verb, is_run_said, is_run, line_code, item_fault}
 use Rattle.cht_script.specs.Steps.{is_sound_act}
 use Rattle.cht_script.specs.Progress.{IsJudged}
 

@@ -1,5 +1,5 @@
 -- The place of a name among those that are bound.
-use Rattle.std.proofs.Common.{◌≡◌, ℕ, ◌<◌, true, false, cond, nat_cmp, List, [], ◌∷◌, ◌++◌, length, map, get_or, Option, None, Some, refl, sym, ap, ◌∙◌, inl, inr, arith, Bor}
+use Rattle.std.proofs.Common.{◌≡◌, ℕ, ◌<◌, true, false, nat_cmp, List, [], ◌∷◌, ◌++◌, length, map, get_or, None, Some, sym, ap, ◌∙◌, inl, inr, arith, Bor}
 use Rattle.std.specs.List.{slice_get}
 use Rattle.std.specs.Option.{option_map}
 use Rattle.std.specs.Str.{bytes_eq}
@@ -12,7 +12,7 @@ use Rattle.std.proofs.lemmas.Option.{slice_get-map, slice_get-get_or}
 use Rattle.std.proofs.lemmas.Map.Text.{btree_map_updates_str}
 use Rattle.cht_script.specs.Newest.{newest_number}
 use Rattle.cht_script.specs.Statements.{Shape}
-use Rattle.cht_script.specs.Verdict.{NamedShape, with_shape, has_name, is_known, shape_found, shape_in}
+use Rattle.cht_script.specs.Verdict.{NamedShape, with_shape, has_name, is_known, shape_found}
 use Rattle.cht_script.specs.declared.known_names.Kept as kept
 use Rattle.cht_script.specs.KnownNames.{named_told, ArePlaces}
 use Rattle.cht_script.specs.Steps.{IsFoundAt}
