@@ -88,5 +88,5 @@ module _ (b h : ℕ) (whole : Entries) (sound : AreSoundEntries b (suc h) false 
         chosen = chosen_in portions;
         agree = (refl, (refl, (refl, (refl, tt))));
         planned = subst (IsOneOf (shape (chosen_in portions))) (sym (shapes_open Assign (suc h) known refl (le-leb (suc h) 16 low)))
-            (choice_among shape (some 0) (some 1) (some 2) (some 3) some_chosen);
+            (choice_among shape (plan_of Assign).parts (some 0) (some 1) (some 2) (some 3) some_chosen (λ e. refl) (λ e. refl) (λ e. refl) (λ e. refl) refl);
       })
