@@ -1,10 +1,8 @@
 -- What an assignment of height at least 1 answers by its plan is sound.
 use Rattle.std.proofs.Common.{◌≡◌, ℕ, suc, ◌+◌, ◌-◌, ◌*◌, ◌<◌, ◌≤◌, true, false, not, ◌||◌, List, [], ◌∷◌, length, map, refl, sym, ap, ap₂, ◌∙◌, subst, arith, ne_eqb}
-use Rattle.std.specs.Prelude.{IfSome}
 use Rattle.std.specs.Option.{is_some}
 use Rattle.std.proofs.lemmas.Bool.{false≢true, le-leb}
 use Rattle.chunk_codec.specs.declared.plain.Spot.{Spot}
-use Rattle.chunk_codec.specs.Spots.{AreSoundSpots}
 use Rattle.task_types.specs.Tree.{Tree, Root}
 use Rattle.task_types.specs.Presence.{Presence, presence_of}
 use Rattle.task_types.specs.Places.{Shape, IsOneOf}
@@ -90,5 +88,5 @@ module _ (b h : ℕ) (whole : Entries) (sound : AreSoundEntries b (suc h) false 
         chosen = chosen_in portions;
         agree = (refl, (refl, (refl, (refl, tt))));
         planned = subst (IsOneOf (shape (chosen_in portions))) (sym (shapes_open Assign (suc h) known refl (le-leb (suc h) 16 low)))
-            (choice_among shape (some 0) (some 1) (some 2) (some 3) some_chosen);
+            (choice_among shape (plan_of Assign).parts (some 0) (some 1) (some 2) (some 3) some_chosen (λ e. refl) (λ e. refl) (λ e. refl) (λ e. refl) refl);
       })
