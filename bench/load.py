@@ -25,7 +25,7 @@ def main():
         runs = [best_run([program], os.devnull, text) for program, text in zip([ours, base], texts)]
         if subprocess.run(["cmp", "-s"] + texts).returncode != 0:
             sys.exit("the two programs write different texts")
-        print(f"{os.path.getsize(texts[0])} bytes, peaks {runs[0][1]:.1f} and {runs[1][1]:.1f} MiB")
+        print(f"{os.path.getsize(texts[0])} bytes")
         print(f"load 7 4096 64: {runs[0][0]:.4f} s, C {runs[1][0]:.4f} s, ratio {runs[0][0] / runs[1][0]:.2f}")
 
 

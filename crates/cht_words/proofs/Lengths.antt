@@ -1,5 +1,5 @@
 -- Words that are too few or too many for options.
-use Rattle.std.proofs.Common.{◌≡◌, ℕ, List, [], ◌∷◌, length, None, refl, arith}
+use Rattle.std.proofs.Common.{◌≡◌, ℕ, List, [], ◌∷◌, length, None, refl}
 use Rattle.cht_words.specs.Words.{options_of}
 
 -- options are two words or four, or none at all

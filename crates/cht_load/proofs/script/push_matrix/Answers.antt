@@ -1,6 +1,6 @@
-use Rattle.std.proofs.Common.{◌≡◌, ℕ, suc, ◌+◌, ◌*◌, List, ◌∷◌, [], ◌++◌, sym, ap, ap₂, ◌∙◌, arith, add-one, append_assoc}
-use Rattle.cht_load.specs.Draws.{state_after, draw}
-use Rattle.cht_load.specs.Script.{texts, row_text, rows_text, head_text}
+use Rattle.std.proofs.Common.{◌≡◌, ℕ, ◌+◌, ◌*◌, List, ◌∷◌, [], ◌++◌, sym, ap, ◌∙◌, arith, add-one, append_assoc}
+use Rattle.cht_load.specs.Draws.{state_after}
+use Rattle.cht_load.specs.Script.{texts, row_text, head_text}
 use Rattle.cht_load.proofs.States.{texts_start, texts_step, state_none, row_more}
 use Rattle.cht_load.proofs.script.push_matrix.Goals as goal
 

@@ -1,6 +1,6 @@
-use Rattle.std.proofs.Common.{◌≡◌, ℕ, suc, ◌+◌, ◌*◌, ◌%◌, List, ◌++◌, ℤ, pos, ◌-ℤ◌, sym, ap, ap₂, ◌∙◌, arith, add-one}
+use Rattle.std.proofs.Common.{◌≡◌, ℕ, suc, ◌+◌, ◌%◌, List, pos, ◌-ℤ◌, sym, ap, ap₂, ◌∙◌, arith, add-one}
 use Rattle.cht_load.specs.Draws.{state_after, draw}
-use Rattle.cht_load.specs.Script.{texts, entry_line, column_of, value_of}
+use Rattle.cht_load.specs.Script.{entry_line, column_of, value_of}
 use Rattle.cht_load.proofs.States.{texts_start, texts_step, draw_first, draw_more, drawn_is, value_is, column_is}
 use Rattle.cht_load.proofs.script.push_row.Goals as goal
 
