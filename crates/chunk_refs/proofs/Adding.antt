@@ -8,14 +8,14 @@ use Rattle.std.specs.FinMap as map
 use Rattle.std.proofs.lemmas.Map.Entries.{length-values_of}
 use Rattle.cht_ids.specs.declared.refs.Id.{Id}
 use Rattle.chunk_store.specs.Contents.{Contents as Stored}
-use Rattle.chunk_refs.specs.declared.holder.Holder.{Holder}
-use Rattle.chunk_refs.specs.declared.parts.Name.{Name}
+use Rattle.name_states.specs.declared.holder.Holder.{Holder}
+use Rattle.chunk_refs.specs.declared.parts.StoredId.{StoredId}
 use Rattle.chunk_refs.specs.declared.parts.Chunk.{Chunk}
 use Rattle.chunk_refs.specs.declared.parts.Parts.{Parts}
-use Rattle.chunk_refs.specs.Names.{Naming, naming_at, body_at, naming_of, owned_by, IsLive}
-use Rattle.chunk_refs.specs.Steps.{with_id, with_body, with_naming, copied}
-use Rattle.chunk_refs.specs.Inside.{names_of, ids_of, bodies_of, names_of_body, shown_name, shown_chunk, chunk_at, ArePlaced, HasChain, IsPut, AreNull, all_four}
-use Rattle.chunk_refs.proofs.Basics.{same_some, none_not_some, some_value}
+use Rattle.name_states.specs.States.{IdRecord, id_at, body_at, record_of, owned_by, IsLive}
+use Rattle.name_states.specs.Steps.{with_id, with_body, with_naming, copied}
+use Rattle.chunk_refs.specs.Inside.{names_of, ids_of, bodies_of, names_of_body, shown_id, shown_chunk, chunk_at, ArePlaced, HasChain, IsPut, AreNull, all_four}
+use Rattle.name_states.proofs.Basics.{same_some, none_not_some, some_value}
 use Rattle.chunk_refs.proofs.Bodies.{shown-bodies_of}
 use Rattle.chunk_refs.proofs.Counts.{names-put, names-le-length, no_more_keys}
 use Rattle.chunk_refs.proofs.Ids.{get-ids_of}
@@ -28,16 +28,16 @@ none_behind f None is = refl
 none_behind f (Some x) is = absurd (none_not_some is refl)
 
 -- a number that names nothing has no entry
-pub free-lookup : (es : List (ℕ × Name)) (number : ℕ) → map.get (ids_of es) number ≡ None → lookup (nat_eq number) es ≡ None
-free-lookup es number is = none_behind shown_name (lookup (nat_eq number) es) (sym (get-ids_of es number) ∙ is)
+pub free-lookup : (es : List (ℕ × StoredId)) (number : ℕ) → map.get (ids_of es) number ≡ None → lookup (nat_eq number) es ≡ None
+free-lookup es number is = none_behind shown_id (lookup (nat_eq number) es) (sym (get-ids_of es number) ∙ is)
 
 live_behind : {A B : Type 0} (f : A → B) (found : Option A) → IsSome (option_map f found) → IsSome found
 live_behind f None is = absurd (cc)
 live_behind f (Some x) is = refl
 
 -- a number that names something has one
-pub live-lookup : (es : List (ℕ × Name)) (number : ℕ) → IsSome (map.get (ids_of es) number) → IsSome (lookup (nat_eq number) es)
-live-lookup es number is = live_behind shown_name (lookup (nat_eq number) es) (ap is_some (sym (get-ids_of es number)) ∙ is)
+pub live-lookup : (es : List (ℕ × StoredId)) (number : ℕ) → IsSome (map.get (ids_of es) number) → IsSome (lookup (nat_eq number) es)
+live-lookup es number is = live_behind shown_id (lookup (nat_eq number) es) (ap is_some (sym (get-ids_of es number)) ∙ is)
 
 -- the value behind a reference that was found
 pub copied-some : {X : Type 0} (found : Option (Bor X)) (r : Bor X) (value : Option X) → found ≡ Some r → option_copied found ≡ value → value ≡ Some r.now
@@ -48,7 +48,7 @@ some-copied {X} None value is some = absurd (none_not_some {X = X} (sym is) (som
 some-copied (Some r) value is some = refl
 
 -- what an insert at a free number does
-pub is_put : {S : Type 0} (m n : HashMap ℕ Name S) (number : ℕ) (name : Name) (old : Option Name) → map.get (ids_of m.entries) number ≡ None → old ≡ lookup (nat_eq number) m.entries
+pub is_put : {S : Type 0} (m n : HashMap ℕ StoredId S) (number : ℕ) (name : StoredId) (old : Option StoredId) → map.get (ids_of m.entries) number ≡ None → old ≡ lookup (nat_eq number) m.entries
     → Updates nat_eq m n number (Some name) → PutsEntry nat_eq m n number name old → IsDistinct nat_eq (keys_of n.entries) → IsPut m.entries n.entries number name
 is_put m n number name old free was updates puts unique =
     let none = free-lookup m.entries number free in
@@ -60,7 +60,7 @@ is_put m n number name old free was updates puts unique =
 
 module _ {C : Type 0} where
   -- an identifier of a body that another names
-  pub name-added : (before after : Parts C) (middle : List (Stored (Chunk C))) (entries : List (ℕ × Name)) (from number : ℕ) (source : Name) (holder : Holder) (chunk : Chunk C) → HasChain before None
+  pub name-added : (before after : Parts C) (middle : List (Stored (Chunk C))) (entries : List (ℕ × StoredId)) (from number : ℕ) (source : StoredId) (holder : Holder) (chunk : Chunk C) → HasChain before None
       → lookup (nat_eq from) before.ids.entries ≡ Some source
       → chunk_at before.stores.items source.owner source.key ≡ Some chunk
       → ArePlaced before.stores.items middle source.owner source.key (Some (record chunk { names = chunk.names + 1 }))
@@ -73,7 +73,7 @@ module _ {C : Type 0} where
       let put_is = subst (λ es. IsPut es after.ids.entries number (record source { holder = holder })) same_ids from_put in
       let linked = no-chain before has in
       let there = subst (λ stores. ArePlaced before.stores.items stores source.owner source.key (Some (record chunk { names = chunk.names + 1 }))) (sym same) placed in
-      let names : naming_at (names_of before) from ≡ Some (shown_name source) = get-ids_of before.ids.entries from ∙ ap (option_map shown_name) is in (
+      let names : id_at (names_of before) from ≡ Some (shown_id source) = get-ids_of before.ids.entries from ∙ ap (option_map shown_id) is in (
         added-names before after source chunk number (record source { holder = holder }) linked at there put_is
             ∙ ap (with_naming (names_of before) number holder) (sym names),
         ([], added before after from source chunk number (record source { holder = holder }) linked is at there refl refl refl put_is bodies),
@@ -95,7 +95,7 @@ module _ {C : Type 0} where
       omega (arith, few, linked.bodies, length-values_of parts.ids.entries)
 
   -- a body with its first identifier
-  pub body-put : (before after : Parts C) (middle : List (Stored (Chunk C))) (entries : List (ℕ × Name)) (owner key number : ℕ) (holder : Holder) (chunk : Chunk C) → HasChain before None
+  pub body-put : (before after : Parts C) (middle : List (Stored (Chunk C))) (entries : List (ℕ × StoredId)) (owner key number : ℕ) (holder : Holder) (chunk : Chunk C) → HasChain before None
       → chunk_at before.stores.items owner key ≡ None
       → ArePlaced before.stores.items middle owner key (Some chunk)
       → after.stores.items ≡ middle
@@ -110,7 +110,7 @@ module _ {C : Type 0} where
       let put_is = subst (λ es. IsPut es after.ids.entries number (record { owner = owner; key = key; body = chunk.number; holder = holder })) same_ids from_put in
       let linked = no-chain before has in
       let there = subst (λ stores. ArePlaced before.stores.items stores owner key (Some chunk)) (sym same) placed in
-      let name : Name = record { owner = owner; key = key; body = chunk.number; holder = holder } in (
+      let name : StoredId = record { owner = owner; key = key; body = chunk.number; holder = holder } in (
         put-names before after chunk number name linked free there new put_is,
         ([], put before after chunk number name linked free there one refl padded new put_is more),
       )
@@ -120,9 +120,9 @@ module _ {C : Type 0} where
   live-stored parts id live = live-lookup parts.ids.entries id.number (ap is_some (live-number (names_of parts) id live).1)
 
   -- and names what that says
-  pub stored-name : (parts : Parts C) (id : Id) (name : Name) → IsLive (names_of parts) id → lookup (nat_eq id.number) parts.ids.entries ≡ Some name → naming_of (names_of parts) id ≡ Some (shown_name name)
+  pub stored-name : (parts : Parts C) (id : Id) (name : StoredId) → IsLive (names_of parts) id → lookup (nat_eq id.number) parts.ids.entries ≡ Some name → record_of (names_of parts) id ≡ Some (shown_id name)
   stored-name parts id name live is =
-      let names : naming_at (names_of parts) id.number ≡ Some (shown_name name) = get-ids_of parts.ids.entries id.number ∙ ap (option_map shown_name) is in
+      let names : id_at (names_of parts) id.number ≡ Some (shown_id name) = get-ids_of parts.ids.entries id.number ∙ ap (option_map shown_id) is in
       let known = live-number (names_of parts) id live in
-      let same : known.0 ≡ shown_name name = same_some known.0 (shown_name name) (sym known.1 ∙ names) in
-      ap (owned_by id.owner) names ∙ owned-same id.owner (shown_name name) (ap (λ (n : Naming). n.owner) (sym same) ∙ known.2)
+      let same : known.0 ≡ shown_id name = same_some known.0 (shown_id name) (sym known.1 ∙ names) in
+      ap (owned_by id.owner) names ∙ owned-same id.owner (shown_id name) (ap (λ (n : IdRecord). n.owner) (sym same) ∙ known.2)

@@ -7,8 +7,8 @@ use Rattle.std.specs.FinMap as map
 use Rattle.std.proofs.lemmas.Bool.Decides.{nat_tests}
 use Rattle.chunk_store.specs.Contents.{Contents as Stored, value_at}
 use Rattle.chunk_refs.specs.declared.parts.Chunk.{Chunk}
-use Rattle.chunk_refs.specs.Names.{Registered}
-use Rattle.chunk_refs.proofs.Basics.{cond_some, cond_is_some, cond_still_some, one_of, same_options, some_value, same_some, same_from_test}
+use Rattle.name_states.specs.States.{BodyRecord}
+use Rattle.name_states.proofs.Basics.{cond_some, cond_is_some, cond_still_some, one_of, same_options, some_value, same_some, same_from_test}
 use Rattle.chunk_refs.specs.Inside.{bodies_of, in_stores, under_keys, onto, shown_chunk, chunk_at, AreApart}
 
 module _ {X : Type 0} where
@@ -37,26 +37,26 @@ module _ {X : Type 0} where
 
 module _ {C : Type 0} where
   -- a body in the stores with this number, which is seen so
-  abbrev pub IsFound : List (Stored (Chunk C)) → ℕ → Registered C → Type 0
+  abbrev pub IsFound : List (Stored (Chunk C)) → ℕ → BodyRecord C → Type 0
   IsFound stores number body =
       (owner : ℕ) × (key : ℕ) × (chunk : Chunk C) × (chunk_at stores owner key ≡ Some chunk) × (chunk.number ≡ number) × (shown_chunk owner chunk ≡ body)
 
   -- the same where owners count from a number
-  abbrev IsFoundFrom : List (Stored (Chunk C)) → ℕ → ℕ → Registered C → Type 0
+  abbrev IsFoundFrom : List (Stored (Chunk C)) → ℕ → ℕ → BodyRecord C → Type 0
   IsFoundFrom stores first number body =
       (owner : ℕ) × (key : ℕ) × (chunk : Chunk C) × (chunk_at stores owner key ≡ Some chunk) × (chunk.number ≡ number) × (shown_chunk (first + owner) chunk ≡ body)
 
   -- the bodies by number are exactly those in the stores
-  pub record AreShown (stores : List (Stored (Chunk C))) (bodies : map.FinMap nat_cmp (Registered C)) : Type 0 where
+  pub record AreShown (stores : List (Stored (Chunk C))) (bodies : map.FinMap nat_cmp (BodyRecord C)) : Type 0 where
     pub there : (owner key : ℕ) (chunk : Chunk C) → chunk_at stores owner key ≡ Some chunk → map.get bodies chunk.number ≡ Some (shown_chunk owner chunk)
-    pub from : (number : ℕ) (body : Registered C) → map.get bodies number ≡ Some body → IsFound stores number body
+    pub from : (number : ℕ) (body : BodyRecord C) → map.get bodies number ≡ Some body → IsFound stores number body
 
   -- under keys of one store
-  abbrev IsFoundUnder : ℕ → Stored (Chunk C) → ℕ → Registered C → Type 0
+  abbrev IsFoundUnder : ℕ → Stored (Chunk C) → ℕ → BodyRecord C → Type 0
   IsFoundUnder owner stored number body =
       (key : ℕ) × (chunk : Chunk C) × (value_at stored key ≡ Some chunk) × (chunk.number ≡ number) × (shown_chunk owner chunk ≡ body)
 
-  find-onto : (owner key : ℕ) (stored : Stored (Chunk C)) (value : Option (Chunk C)) (rest : List (ℕ × Registered C)) (number : ℕ) (body : Registered C)
+  find-onto : (owner key : ℕ) (stored : Stored (Chunk C)) (value : Option (Chunk C)) (rest : List (ℕ × BodyRecord C)) (number : ℕ) (body : BodyRecord C)
       → value_at stored key ≡ value
       → (map.find nat_cmp number rest ≡ Some body → IsFoundUnder owner stored number body)
       → map.find nat_cmp number (onto owner value rest) ≡ Some body → IsFoundUnder owner stored number body
@@ -67,13 +67,13 @@ module _ {C : Type 0} where
         | inr rest_has ↦ later rest_has.1
       ]
 
-  find-under_keys : (owner : ℕ) (stored : Stored (Chunk C)) (keys : List ℕ) (number : ℕ) (body : Registered C)
+  find-under_keys : (owner : ℕ) (stored : Stored (Chunk C)) (keys : List ℕ) (number : ℕ) (body : BodyRecord C)
       → map.find nat_cmp number (under_keys owner stored keys) ≡ Some body → IsFoundUnder owner stored number body
   find-under_keys owner stored [] number body found = absurd (cc)
   find-under_keys owner stored (key ∷ keys) number body found =
       find-onto owner key stored (value_at stored key) (under_keys owner stored keys) number body refl (find-under_keys owner stored keys number body) found
 
-  find-in_stores : (first : ℕ) (stores : List (Stored (Chunk C))) (number : ℕ) (body : Registered C)
+  find-in_stores : (first : ℕ) (stores : List (Stored (Chunk C))) (number : ℕ) (body : BodyRecord C)
       → map.find nat_cmp number (in_stores first stores) ≡ Some body → IsFoundFrom stores first number body
   find-in_stores first [] number body found = absurd (cc)
   find-in_stores first (stored ∷ stores) number body found =
@@ -88,12 +88,12 @@ module _ {C : Type 0} where
       ]
 
   -- the other way round: a body in a store is found, or another with its number
-  onto-finds : (owner : ℕ) (value : Option (Chunk C)) (rest : List (ℕ × Registered C)) (number : ℕ)
+  onto-finds : (owner : ℕ) (value : Option (Chunk C)) (rest : List (ℕ × BodyRecord C)) (number : ℕ)
       → is_some (map.find nat_cmp number rest) ≡ true → is_some (map.find nat_cmp number (onto owner value rest)) ≡ true
   onto-finds owner None rest number found = found
   onto-finds owner (Some chunk) rest number found = cond_is_some (eq_by_cmp nat_cmp number chunk.number) (shown_chunk owner chunk) (map.find nat_cmp number rest) found
 
-  onto-first : (owner : ℕ) (value : Option (Chunk C)) (chunk : Chunk C) (rest : List (ℕ × Registered C)) → value ≡ Some chunk → is_some (map.find nat_cmp chunk.number (onto owner value rest)) ≡ true
+  onto-first : (owner : ℕ) (value : Option (Chunk C)) (chunk : Chunk C) (rest : List (ℕ × BodyRecord C)) → value ≡ Some chunk → is_some (map.find nat_cmp chunk.number (onto owner value rest)) ≡ true
   onto-first owner value chunk rest is =
       let itself : nat_eq chunk.number chunk.number ≡ true = grind (arith, nat_tests) in
       ap (λ o. is_some (map.find nat_cmp chunk.number (onto owner o rest))) is
@@ -121,15 +121,15 @@ module _ {C : Type 0} where
   in_stores-finds first (stored ∷ stores) (suc owner) key chunk is =
       find-right chunk.number (under_keys first stored (map.keys stored.held)) (in_stores (suc first) stores) (in_stores-finds (suc first) stores owner key chunk is)
 
-  from_zero : (stores : List (Stored (Chunk C))) (number : ℕ) (body : Registered C) → IsFoundFrom stores 0 number body → IsFound stores number body
+  from_zero : (stores : List (Stored (Chunk C))) (number : ℕ) (body : BodyRecord C) → IsFoundFrom stores 0 number body → IsFound stores number body
   from_zero stores number body f = (f.0, f.1, f.2, f.3, f.4, ap (λ o. shown_chunk o f.2) (sym (zero-add f.0)) ∙ f.5)
 
   -- the bodies of stores where no number stands twice
   pub shown-bodies_of : (stores : List (Stored (Chunk C))) → AreApart stores → AreShown stores (bodies_of stores)
   unfolding bodies_of
   shown-bodies_of stores apart =
-      let bodies : map.FinMap nat_cmp (Registered C) = map.from_entries (in_stores 0 stores) in
-      let comes : (number : ℕ) (body : Registered C) → map.get bodies number ≡ Some body → IsFound stores number body =
+      let bodies : map.FinMap nat_cmp (BodyRecord C) = map.from_entries (in_stores 0 stores) in
+      let comes : (number : ℕ) (body : BodyRecord C) → map.get bodies number ≡ Some body → IsFound stores number body =
       λ number body is. from_zero stores number body (find-in_stores 0 stores number body (sym (map.get-from_entries nat_cmp_total (in_stores 0 stores) number) ∙ is)) in
       record {
         there = λ owner key chunk is.
@@ -141,14 +141,14 @@ module _ {C : Type 0} where
         from = comes;
       }
 
-  carried : {stores : List (Stored (Chunk C))} (one other : map.FinMap nat_cmp (Registered C)) → AreShown stores one → AreShown stores other
-      → (number : ℕ) (body : Registered C) → map.get one number ≡ Some body → map.get other number ≡ Some body
+  carried : {stores : List (Stored (Chunk C))} (one other : map.FinMap nat_cmp (BodyRecord C)) → AreShown stores one → AreShown stores other
+      → (number : ℕ) (body : BodyRecord C) → map.get one number ≡ Some body → map.get other number ≡ Some body
   carried one other a b number body is =
       let f = a.from number body is in
       ap (map.get other) (sym f.4) ∙ b.there f.0 f.1 f.2 f.3 ∙ ap Some f.5
 
   -- the stores determine the bodies
-  pub same_bodies : (stores : List (Stored (Chunk C))) (one other : map.FinMap nat_cmp (Registered C)) → AreShown stores one → AreShown stores other → one ≡ other
+  pub same_bodies : (stores : List (Stored (Chunk C))) (one other : map.FinMap nat_cmp (BodyRecord C)) → AreShown stores one → AreShown stores other → one ≡ other
   same_bodies stores one other a b =
       map.same_map nat_cmp_total map.nat_cmp-IsAntisymmetric one other (λ number.
       same_options (map.get one number) (map.get other number) (carried one other a b number) (carried other one b a number))

@@ -5,7 +5,7 @@ use Rattle.chunk_store.specs.Contents.{Contents as Stored}
 use Rattle.chunk_refs.specs.declared.parts.Spot.{Spot}
 use Rattle.chunk_refs.specs.declared.parts.Chunk.{Chunk}
 use Rattle.chunk_refs.specs.Inside.{chunk_at, IsChain}
-use Rattle.chunk_refs.proofs.Basics.{one_of, same_from_test, test_same}
+use Rattle.name_states.proofs.Basics.{one_of, same_from_test, test_same}
 
 later_is_on : (a b : Bool) → b ≡ true → (a || b) ≡ true
 later_is_on true b is = refl

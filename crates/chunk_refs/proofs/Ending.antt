@@ -7,15 +7,15 @@ use Rattle.std.specs.Ordering.{nat_cmp}
 use Rattle.std.specs.FinMap as map
 use Rattle.cht_ids.specs.declared.refs.Ref.{Ref}
 use Rattle.cht_ids.specs.declared.refs.Ref.TheVariants.{Null, Id as Held}
-use Rattle.chunk_refs.specs.declared.parts.Name.{Name}
+use Rattle.chunk_refs.specs.declared.parts.StoredId.{StoredId}
 use Rattle.chunk_refs.specs.declared.parts.Spot.{Spot}
 use Rattle.chunk_refs.specs.declared.parts.Chunk.{Chunk}
 use Rattle.chunk_refs.specs.declared.parts.Parts.{Parts}
-use Rattle.chunk_refs.specs.Names.{Names, Naming, Registered, naming_at, body_at}
-use Rattle.chunk_refs.specs.Steps.{without_id, without_body}
-use Rattle.chunk_refs.specs.Inside.{names_of, bodies_of, names_of_body, shown_name, shown_chunk, chunk_at, ArePlaced, IsLinked, HasChain, AreNull, all_four}
+use Rattle.name_states.specs.States.{NameState, IdRecord, BodyRecord, id_at, body_at}
+use Rattle.name_states.specs.Steps.{without_id, without_body}
+use Rattle.chunk_refs.specs.Inside.{names_of, bodies_of, names_of_body, shown_id, shown_chunk, chunk_at, ArePlaced, IsLinked, HasChain, AreNull, all_four}
 use Rattle.chunk_refs.specs.Deleting.{IsReleased, IsTaken, without_refs}
-use Rattle.chunk_refs.proofs.Basics.{same_some, none_not_some, some_value}
+use Rattle.name_states.proofs.Basics.{same_some, none_not_some, some_value}
 use Rattle.chunk_refs.proofs.Bodies.{shown-bodies_of}
 use Rattle.chunk_refs.proofs.Chains.{chain-kept}
 use Rattle.chunk_refs.proofs.Counts.{named-counts, counted-name}
@@ -81,7 +81,7 @@ module _ {C : Type 0} where
       λ i. record { ids = ids i; bodies = bodies_of (stores i) }
 
   -- the body that an identifier names counts it
-  pub counts-name : (before : Parts C) (first : Option Spot) (number : ℕ) (name : Name) → HasChain before first → Some name ≡ lookup (nat_eq number) before.ids.entries
+  pub counts-name : (before : Parts C) (first : Option Spot) (number : ℕ) (name : StoredId) → HasChain before first → Some name ≡ lookup (nat_eq number) before.ids.entries
       → (chunk : Chunk C) → chunk_at before.stores.items name.owner name.key ≡ Some chunk → 0 < chunk.names
   counts-name before first number name has is chunk at =
       let linked = has.1 in
@@ -89,7 +89,7 @@ module _ {C : Type 0} where
       let number_is : chunk.number ≡ name.body = ap (λ (c : Chunk C). c.number) (same_some chunk there.0 (sym at ∙ there.1)) ∙ there.2 in
       omega (arith, linked.counted name.owner name.key chunk at, ap (λ n. names_of_body n before.ids.entries) number_is, named-counts before.ids.entries number name (sym is))
 
-  released-names : (before after : Parts C) (first later : Option Spot) (chain : List ℕ) (number : ℕ) (name : Name) (chunk : Chunk C) → IsLinked before first chain
+  released-names : (before after : Parts C) (first later : Option Spot) (chain : List ℕ) (number : ℕ) (name : StoredId) (chunk : Chunk C) → IsLinked before first chain
       → chunk_at before.stores.items name.owner name.key ≡ Some chunk
       → IdsTaken before.ids.entries after.ids.entries number
       → IsReleased before.stores.items after.stores.items name chunk first later
@@ -99,7 +99,7 @@ module _ {C : Type 0} where
   released-names before after first later chain number name chunk linked at ids (inr less) =
       ended-names before after first chain number name chunk (record chunk { names = less.left; next = chunk.next }) linked at refl refl refl ids less.placed
 
-  released-chain : (before after : Parts C) (first later : Option Spot) (chain : List ℕ) (number : ℕ) (name : Name) (chunk : Chunk C) → IsLinked before first chain
+  released-chain : (before after : Parts C) (first later : Option Spot) (chain : List ℕ) (number : ℕ) (name : StoredId) (chunk : Chunk C) → IsLinked before first chain
       → lookup (nat_eq number) before.ids.entries ≡ Some name
       → chunk_at before.stores.items name.owner name.key ≡ Some chunk
       → IdsTaken before.ids.entries after.ids.entries number
@@ -112,7 +112,7 @@ module _ {C : Type 0} where
       (chain, subst (λ f. IsLinked after f chain) (sym less.front) (ended-more before after first chain number name chunk less.left linked is at less.less less.some_left ids less.placed bodies))
 
   -- an identifier that was live ends
-  pub id-ended : (before after : Parts C) (first later : Option Spot) (number : ℕ) (name : Name) (entries : List (ℕ × Name)) → HasChain before first
+  pub id-ended : (before after : Parts C) (first later : Option Spot) (number : ℕ) (name : StoredId) (entries : List (ℕ × StoredId)) → HasChain before first
       → Some name ≡ lookup (nat_eq number) before.ids.entries
       → IdsTaken before.ids.entries entries number
       → after.ids.entries ≡ entries
@@ -136,7 +136,7 @@ module _ {C : Type 0} where
             (is.1, ap (λ (p : Spot). chunk_at parts.stores.items p.owner p.key) (same_some spot is.0 is.2) ∙ is.3, is.5)
       ] has.1
 
-  no_len : (m : map.FinMap nat_cmp (Registered C)) (key : ℕ) (body : Registered C) → map.get m key ≡ Some body → map.len m ≡ 0 → ⊥
+  no_len : (m : map.FinMap nat_cmp (BodyRecord C)) (key : ℕ) (body : BodyRecord C) → map.get m key ≡ Some body → map.len m ≡ 0 → ⊥
   no_len m key body is none = none_not_some (ap (λ n. map.get n key) (map.empty_of_len m none) ∙ map.get-empty nat_cmp key) is
 
   -- where a body stands, there is at least one
@@ -145,13 +145,13 @@ module _ {C : Type 0} where
       at_least_one parts.bodies (λ none.
       no_len (bodies_of parts.stores.items) chunk.number (shown_chunk owner chunk) ((shown-bodies_of parts.stores.items linked.apart).there owner key chunk at) (sym linked.bodies ∙ none))
 
-  all_null : (names : Names C) (refs : List Ref) → AreNull refs → without_refs names refs ≡ names
+  all_null : (names : NameState C) (refs : List Ref) → AreNull refs → without_refs names refs ≡ names
   all_null names [] null = refl
   all_null names (Null ∷ refs) null = all_null names refs null.1
   all_null names (Held id ∷ refs) null = absurd (let clash : Held id ≡ Null = null.0 in cc)
 
   -- the null references past the last child have no identifiers
-  without-padding : (names : Names C) (count : ℕ) (refs : List Ref) → AreNull (drop count refs) → without_refs names refs ≡ without_refs names (take count refs)
+  without-padding : (names : NameState C) (count : ℕ) (refs : List Ref) → AreNull (drop count refs) → without_refs names refs ≡ without_refs names (take count refs)
   without-padding names zero refs null = all_null names refs null
   without-padding names (suc count) [] null = refl
   without-padding names (suc count) (Null ∷ refs) null = without-padding names count refs null
@@ -172,7 +172,7 @@ module _ {C : Type 0} where
         (shown-bodies_of before.stores.items linked.apart).there spot.owner spot.key chunk at,
         (λ id naming is same.
             let name = name_behind before.ids.entries id naming is in
-            unnamed before (Some spot) has.0 spot.owner spot.key chunk linked at none id name.0 name.1 (ap (λ (n : Naming). n.body) name.2 ∙ same)),
+            unnamed before (Some spot) has.0 spot.owner spot.key chunk linked at none id name.0 name.1 (ap (λ (n : IdRecord). n.body) name.2 ∙ same)),
         ended
             ∙ ap (λ names. without_refs names (all_four chunk.children)) (taken-names before middle (Some spot) has.0 spot chunk linked at placed ids)
             ∙ without-padding (without_body (names_of before) chunk.number) chunk.children.count (all_four chunk.children) (linked.padded spot.owner spot.key chunk at),
@@ -180,14 +180,14 @@ module _ {C : Type 0} where
 
   -- where the chain is empty, each body has an identifier
   all-named : (parts : Parts C) → IsLinked parts None [] → (number : ℕ) → IsSome (body_at (names_of parts) number)
-      → (id : ℕ) × (naming : Naming) × (naming_at (names_of parts) id ≡ Some naming) × (naming.body ≡ number)
+      → (id : ℕ) × (naming : IdRecord) × (id_at (names_of parts) id ≡ Some naming) × (naming.body ≡ number)
   all-named parts linked number some =
       let body = some_value (body_at (names_of parts) number) some in
       let found = (shown-bodies_of parts.stores.items linked.apart).from number body.0 body.1 in
       let counted = linked.counted found.0 found.1 found.2 found.3 in
       let name = counted-name parts.ids.entries found.2.number linked.unique
       (subst (λ n. 0 < n) counted (positive found.2.names (λ none. not_on_none (linked.dead found.0 found.1 found.2 found.3 none)))) in
-      (name.0, shown_name name.1, get-ids_of parts.ids.entries name.0 ∙ ap (option_map shown_name) name.2, name.3 ∙ found.4)
+      (name.0, shown_id name.1, get-ids_of parts.ids.entries name.0 ∙ ap (option_map shown_id) name.2, name.3 ∙ found.4)
 
   -- a chain with no first body is empty
   pub no-chain : (parts : Parts C) → HasChain parts None → IsLinked parts None []
@@ -198,5 +198,5 @@ module _ {C : Type 0} where
       ] has.1
 
   pub all-named-once : (parts : Parts C) → HasChain parts None → (number : ℕ) → IsSome (body_at (names_of parts) number)
-      → (id : ℕ) × (naming : Naming) × (naming_at (names_of parts) id ≡ Some naming) × (naming.body ≡ number)
+      → (id : ℕ) × (naming : IdRecord) × (id_at (names_of parts) id ≡ Some naming) × (naming.body ≡ number)
   all-named-once parts has = all-named parts (no-chain parts has)

@@ -6,12 +6,12 @@ use Rattle.cht_ids.specs.declared.refs.Id.{Id}
 use Rattle.cht_ids.specs.declared.refs.Ref.{Ref}
 use Rattle.cht_ids.specs.declared.refs.Ref.TheVariants.{Null, Id as Held}
 use Rattle.task_types.specs.Tree.{Nothing, rooted}
-use Rattle.chunk_refs.specs.declared.holder.Holder.{Holder}
-use Rattle.chunk_refs.specs.declared.holder.Holder.TheVariants.{Body}
-use Rattle.chunk_refs.specs.Names.{Names, Naming, naming_at, naming_of, owned_by, holder_of, AreLive, IsLive}
-use Rattle.chunk_refs.specs.Steps.{registered, numbered}
+use Rattle.name_states.specs.declared.holder.Holder.{Holder}
+use Rattle.name_states.specs.declared.holder.Holder.TheVariants.{Body}
+use Rattle.name_states.specs.States.{NameState, IdRecord, id_at, record_of, owned_by, holder_of, AreLive, IsLive}
+use Rattle.name_states.specs.Steps.{registered, numbered}
 use Rattle.chunk_refs.specs.Trees.{tree_named, led_to, grown, tree_within, body_tree, tree_of}
-use Rattle.chunk_refs.specs.Rules.{IsSound, AreWithin}
+use Rattle.name_states.specs.Rules.{IsSound, AreWithin}
 use Rattle.chunk_refs.proofs.Copies.{AreCopies}
 use Rattle.chunk_refs.proofs.Sound.{new-body, new-naming, new-copies, more-registered}
 use Rattle.chunk_refs.proofs.Trees.{AreMore, same-within, tree-kept}
@@ -19,8 +19,8 @@ use Rattle.chunk_refs.proofs.Within.{naming_of-kept, owned-same}
 
 module _ {C : Type 0} where
   -- copies lead to what the children lead to
-  same-copies : (arity : C → ℕ) (names after : Names C) (holder : Holder) (depth : ℕ) → IsSound arity names → AreMore names after
-      → ((q : ℕ) (naming : Naming) → naming_at names q ≡ Some naming → naming.body < depth)
+  same-copies : (arity : C → ℕ) (names after : NameState C) (holder : Holder) (depth : ℕ) → IsSound arity names → AreMore names after
+      → ((q : ℕ) (naming : IdRecord) → id_at names q ≡ Some naming → naming.body < depth)
       → (refs own : List Ref) → AreCopies names after holder refs own → each (led_to (tree_within depth after) after) own ≡ each (tree_of names) refs
   same-copies arity names after holder depth sound more deep [] [] copies = refl
   same-copies arity names after holder depth sound more deep [] (r ∷ own) copies = absurd copies
@@ -31,9 +31,9 @@ module _ {C : Type 0} where
   same-copies arity names after holder depth sound more deep (Held child ∷ refs) (Null ∷ own) copies = absurd copies
   same-copies arity names after holder depth sound more deep (Held child ∷ refs) (Held id ∷ own) copies =
       let c = copies.0 in
-      let new : naming_of after id ≡ Some (record c.0 { holder = holder }) = ap (owned_by id.owner) c.4 ∙ owned-same id.owner (record c.0 { holder = holder }) (c.2 ∙ sym c.3) in
-      let old : naming_of names child ≡ Some c.0 = ap (owned_by child.owner) c.1 ∙ owned-same child.owner c.0 c.2 in
-      let head : tree_named (tree_within depth after) (naming_of after id) ≡ tree_named (body_tree names) (naming_of names child) =
+      let new : record_of after id ≡ Some (record c.0 { holder = holder }) = ap (owned_by id.owner) c.4 ∙ owned-same id.owner (record c.0 { holder = holder }) (c.2 ∙ sym c.3) in
+      let old : record_of names child ≡ Some c.0 = ap (owned_by child.owner) c.1 ∙ owned-same child.owner c.0 c.2 in
+      let head : tree_named (tree_within depth after) (record_of after id) ≡ tree_named (body_tree names) (record_of names child) =
       ap (tree_named (tree_within depth after)) new
       ∙ sym (same-within arity names after sound more (suc c.0.body) depth c.0.body (omega arith) (deep child.number c.0 c.1) (ap is_some (sound.named child.number c.0 c.1).1))
       ∙ sym (ap (tree_named (body_tree names)) old) in
@@ -41,7 +41,7 @@ module _ {C : Type 0} where
       λ i. head i ∷ rest i
 
   -- the new identifier leads to the content over the trees of the children
-  pub tree-registered : (arity : C → ℕ) (names : Names C) (drawn : ℕ) (holder : Holder) (worker : ℕ) (content : C) (refs : List Ref) → IsSound arity names → AreWithin names drawn → AreLive names refs
+  pub tree-registered : (arity : C → ℕ) (names : NameState C) (drawn : ℕ) (holder : Holder) (worker : ℕ) (content : C) (refs : List Ref) → IsSound arity names → AreWithin names drawn → AreLive names refs
       → tree_of (registered names drawn holder worker content refs) (Held (record { owner = worker; number = drawn + 2 })) ≡ rooted content (each (tree_of names) refs)
   tree-registered arity names drawn holder worker content refs sound within live =
       let after = registered names drawn holder worker content refs in
@@ -52,7 +52,7 @@ module _ {C : Type 0} where
       refs (numbered (drawn + 2) refs) (new-copies names drawn holder worker content refs within live))
 
   -- what was live is held by whom it was and leads where it led
-  pub others-kept : (arity : C → ℕ) (names more : Names C) → IsSound arity names → AreMore names more
+  pub others-kept : (arity : C → ℕ) (names more : NameState C) → IsSound arity names → AreMore names more
       → (id : Id) → IsLive names id → (holder_of more id ≡ holder_of names id) × (tree_of more (Held id) ≡ tree_of names (Held id))
   others-kept arity names more sound is_more id live =
-      (ap (option_map (λ (naming : Naming). naming.holder)) (naming_of-kept names more id is_more.ids live), tree-kept arity names more sound is_more (Held id) live)
+      (ap (option_map (λ (naming : IdRecord). naming.holder)) (naming_of-kept names more id is_more.ids live), tree-kept arity names more sound is_more (Held id) live)

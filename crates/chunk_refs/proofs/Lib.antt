@@ -1,5 +1,4 @@
 pub mod Adding
-pub mod Basics
 pub mod Bodies
 pub mod Calls
 pub mod Chains
@@ -10,7 +9,6 @@ pub mod Grown
 pub mod Ids
 pub mod Linked
 pub mod Places
-pub mod Reaching
 pub mod Registering
 pub mod Reserving
 pub mod Sound

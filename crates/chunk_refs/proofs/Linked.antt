@@ -5,15 +5,15 @@ use Rattle.std.specs.List.Sorted.{IsPermutation}
 use Rattle.std.specs.Map.{lookup, keys_of, remove_entry}
 use Rattle.std.specs.Cmp.{nat_cmp_total}
 use Rattle.std.specs.FinMap as map
-use Rattle.chunk_refs.specs.declared.parts.Name.{Name}
+use Rattle.chunk_refs.specs.declared.parts.StoredId.{StoredId}
 use Rattle.chunk_refs.specs.declared.parts.Spot.{Spot}
 use Rattle.chunk_refs.specs.declared.parts.Chunk.{Chunk}
 use Rattle.chunk_refs.specs.declared.children.Children.{Children}
 use Rattle.chunk_refs.specs.declared.parts.Parts.{Parts}
-use Rattle.chunk_refs.specs.Names.{Names}
-use Rattle.chunk_refs.specs.Steps.{without_id, without_body, with_id, with_body}
-use Rattle.chunk_refs.specs.Inside.{names_of, ids_of, bodies_of, names_of_body, shown_chunk, chunk_at, HasChunk, ArePlaced, IsChain, IsLinked, HasChain, IsPut, AreNull, all_four, refs_of, shown_name}
-use Rattle.chunk_refs.proofs.Basics.{same_some, none_not_some, test_same, same_from_test, test_apart}
+use Rattle.name_states.specs.States.{NameState}
+use Rattle.name_states.specs.Steps.{without_id, without_body, with_id, with_body}
+use Rattle.chunk_refs.specs.Inside.{names_of, ids_of, bodies_of, names_of_body, shown_chunk, chunk_at, HasChunk, ArePlaced, IsChain, IsLinked, HasChain, IsPut, AreNull, all_four, refs_of, shown_id}
+use Rattle.name_states.proofs.Basics.{same_some, none_not_some, test_same, same_from_test, test_apart}
 use Rattle.chunk_refs.proofs.Bodies.{shown-bodies_of}
 use Rattle.chunk_refs.proofs.Counts.{counts_for, names-taken, named-counts, counted-name}
 use Rattle.chunk_refs.proofs.Chains.{chain-kept, chain-dead}
@@ -21,13 +21,13 @@ use Rattle.chunk_refs.proofs.Ids.{ids_of-insert, ids_of-remove}
 use Rattle.chunk_refs.proofs.Places.{at_place, apart-rewritten, bodies-rewritten, has-rewritten, apart-inserted, bodies-inserted, apart-removed, bodies-removed, no_number, same_there}
 
 -- one identifier less
-pub record IdsTaken (before after : List (ℕ × Name)) (number : ℕ) : Type 0 where
+pub record IdsTaken (before after : List (ℕ × StoredId)) (number : ℕ) : Type 0 where
   pub lookups : (q : ℕ) → lookup (nat_eq q) after ≡ cond (nat_eq number q) None (lookup (nat_eq q) before)
   pub taken : IsPermutation (remove_entry (nat_eq number) before) after
   pub unique : IsDistinct nat_eq (keys_of after)
 
 -- what is looked up after a put is what was put, or was looked up before
-put-lookup : (before after : List (ℕ × Name)) (number q : ℕ) (put name : Name) → IsPut before after number put → lookup (nat_eq q) after ≡ Some name
+put-lookup : (before after : List (ℕ × StoredId)) (number q : ℕ) (put name : StoredId) → IsPut before after number put → lookup (nat_eq q) after ≡ Some name
     → ((number ≡ q) × (put ≡ name)) ⊎ (lookup (nat_eq q) before ≡ Some name)
 put-lookup before after number q put name ids is =
     elim (nat_eq number q) as (λ t. nat_eq number q ≡ t → ((number ≡ q) × (put ≡ name)) ⊎ (lookup (nat_eq q) before ≡ Some name)) [
@@ -36,7 +36,7 @@ put-lookup before after number q put name ids is =
     ] refl
 
 -- what is looked up after it was looked up before
-taken-lookup : (before after : List (ℕ × Name)) (number q : ℕ) (name : Name) → IdsTaken before after number → lookup (nat_eq q) after ≡ Some name → lookup (nat_eq q) before ≡ Some name
+taken-lookup : (before after : List (ℕ × StoredId)) (number q : ℕ) (name : StoredId) → IdsTaken before after number → lookup (nat_eq q) after ≡ Some name → lookup (nat_eq q) before ≡ Some name
 taken-lookup before after number q name ids is =
     elim (nat_eq number q) as (λ t. nat_eq number q ≡ t → lookup (nat_eq q) before ≡ Some name) [
       | true ↦ λ same. absurd (none_not_some (ids.lookups q ∙ ap (λ b. cond b None (lookup (nat_eq q) before)) same) is)
@@ -69,7 +69,7 @@ on_rest number other rest apart on = ap (λ b. b || list_any (λ n. n == other) 
 
 module _ {C : Type 0} where
   -- the body that an identifier names, where it stands
-  pub named-chunk : (parts : Parts C) (first : Option Spot) (chain : List ℕ) (number : ℕ) (name : Name) (chunk : Chunk C) → IsLinked parts first chain
+  pub named-chunk : (parts : Parts C) (first : Option Spot) (chain : List ℕ) (number : ℕ) (name : StoredId) (chunk : Chunk C) → IsLinked parts first chain
       → lookup (nat_eq number) parts.ids.entries ≡ Some name → chunk_at parts.stores.items name.owner name.key ≡ Some chunk → chunk.number ≡ name.body
   named-chunk parts first chain number name chunk linked is at =
       let has = linked.named number name is in
@@ -79,11 +79,11 @@ module _ {C : Type 0} where
   same_shown owner new chunk children body = λ i. record { owner = owner; content = body i; children = refs_of (children i) }
 
   -- names are their identifiers and their bodies
-  same_names : (a b : Names C) → a.ids ≡ b.ids → a.bodies ≡ b.bodies → a ≡ b
+  same_names : (a b : NameState C) → a.ids ≡ b.ids → a.bodies ≡ b.bodies → a ≡ b
   same_names a b ids bodies = λ i. record { ids = ids i; bodies = bodies i }
 
   -- an identifier ends: its body counts one less, and comes to the front of the chain where it was the last
-  ended : (before after : Parts C) (first later : Option Spot) (chain longer : List ℕ) (number : ℕ) (name : Name) (chunk new : Chunk C) → IsLinked before first chain
+  ended : (before after : Parts C) (first later : Option Spot) (chain longer : List ℕ) (number : ℕ) (name : StoredId) (chunk new : Chunk C) → IsLinked before first chain
       → lookup (nat_eq number) before.ids.entries ≡ Some name → chunk_at before.stores.items name.owner name.key ≡ Some chunk
       → new.number ≡ chunk.number → new.children ≡ chunk.children → new.body ≡ chunk.body → new.names + 1 ≡ chunk.names
       → IdsTaken before.ids.entries after.ids.entries number
@@ -131,7 +131,7 @@ module _ {C : Type 0} where
       }
 
   -- the last identifier of a body ends
-  pub ended-last : (before after : Parts C) (first : Option Spot) (chain : List ℕ) (number : ℕ) (name : Name) (chunk : Chunk C) → IsLinked before first chain
+  pub ended-last : (before after : Parts C) (first : Option Spot) (chain : List ℕ) (number : ℕ) (name : StoredId) (chunk : Chunk C) → IsLinked before first chain
       → lookup (nat_eq number) before.ids.entries ≡ Some name → chunk_at before.stores.items name.owner name.key ≡ Some chunk → chunk.names ≡ 1
       → IdsTaken before.ids.entries after.ids.entries number
       → ArePlaced before.stores.items after.stores.items name.owner name.key (Some (record chunk { names = 0; next = first }))
@@ -161,7 +161,7 @@ module _ {C : Type 0} where
       (λ n on. later_on (chunk.number == n) (list_any (λ other. other == n) chain) on)
 
   -- an identifier ends, and its body has another
-  pub ended-more : (before after : Parts C) (first : Option Spot) (chain : List ℕ) (number : ℕ) (name : Name) (chunk : Chunk C) (left : ℕ) → IsLinked before first chain
+  pub ended-more : (before after : Parts C) (first : Option Spot) (chain : List ℕ) (number : ℕ) (name : StoredId) (chunk : Chunk C) (left : ℕ) → IsLinked before first chain
       → lookup (nat_eq number) before.ids.entries ≡ Some name → chunk_at before.stores.items name.owner name.key ≡ Some chunk → left + 1 ≡ chunk.names → (left ≡ 0 → ⊥)
       → IdsTaken before.ids.entries after.ids.entries number
       → ArePlaced before.stores.items after.stores.items name.owner name.key (Some (record chunk { names = left; next = chunk.next }))
@@ -177,7 +177,7 @@ module _ {C : Type 0} where
       (λ n on. on)
 
   -- what the end of an identifier makes of the names
-  pub ended-names : (before after : Parts C) (first : Option Spot) (chain : List ℕ) (number : ℕ) (name : Name) (chunk new : Chunk C) → IsLinked before first chain
+  pub ended-names : (before after : Parts C) (first : Option Spot) (chain : List ℕ) (number : ℕ) (name : StoredId) (chunk new : Chunk C) → IsLinked before first chain
       → chunk_at before.stores.items name.owner name.key ≡ Some chunk
       → new.number ≡ chunk.number → new.children ≡ chunk.children → new.body ≡ chunk.body
       → IdsTaken before.ids.entries after.ids.entries number
@@ -189,7 +189,7 @@ module _ {C : Type 0} where
 
   -- a body that no identifier names is not named
   pub unnamed : (parts : Parts C) (first : Option Spot) (chain : List ℕ) (owner key : ℕ) (chunk : Chunk C) → IsLinked parts first chain → chunk_at parts.stores.items owner key ≡ Some chunk → chunk.names ≡ 0
-      → (number : ℕ) (name : Name) → lookup (nat_eq number) parts.ids.entries ≡ Some name → (name.body ≡ chunk.number → ⊥)
+      → (number : ℕ) (name : StoredId) → lookup (nat_eq number) parts.ids.entries ≡ Some name → (name.body ≡ chunk.number → ⊥)
   unnamed parts first chain owner key chunk linked at none number name is same =
       let some_names : 0 < names_of_body chunk.number parts.ids.entries = subst (λ n. 0 < names_of_body n parts.ids.entries) same (named-counts parts.ids.entries number name is) in
       absurd (omega (arith, some_names, none, linked.counted owner key chunk at))
@@ -205,7 +205,7 @@ module _ {C : Type 0} where
       let as_first : is.1 ≡ chunk = same_some is.1 chunk (sym is.3 ∙ ap (λ (p : Spot). chunk_at before.stores.items p.owner p.key) same_spot ∙ at) in
       let none : chunk.names ≡ 0 = ap (λ (c : Chunk C). c.names) (sym as_first) ∙ is.5 in
       let number_is : chunk.number ≡ number = ap (λ (c : Chunk C). c.number) (sym as_first) ∙ is.4 in
-      let still : (q : ℕ) (name : Name) → lookup (nat_eq q) after.ids.entries ≡ Some name → HasChunk after.stores.items name.owner name.key name.body =
+      let still : (q : ℕ) (name : StoredId) → lookup (nat_eq q) after.ids.entries ≡ Some name → HasChunk after.stores.items name.owner name.key name.body =
       λ q name q_is.
       let q_was : lookup (nat_eq q) before.ids.entries ≡ Some name = ap (lookup (nat_eq q)) (sym ids) ∙ q_is in
       let has = linked.named q name q_was in (
@@ -263,7 +263,7 @@ module _ {C : Type 0} where
       same_names (names_of after) (without_body (names_of before) chunk.number) (ap ids_of ids) (bodies-removed before.stores.items after.stores.items spot.owner spot.key chunk linked.apart at placed)
 
   -- a new body with its first identifier
-  pub put : (before after : Parts C) (chunk : Chunk C) (number : ℕ) (name : Name) → IsLinked before None []
+  pub put : (before after : Parts C) (chunk : Chunk C) (number : ℕ) (name : StoredId) → IsLinked before None []
       → chunk_at before.stores.items name.owner name.key ≡ None
       → ArePlaced before.stores.items after.stores.items name.owner name.key (Some chunk)
       → chunk.names ≡ 1 → name.body ≡ chunk.number → AreNull (drop chunk.children.count (all_four chunk.children))
@@ -280,7 +280,7 @@ module _ {C : Type 0} where
       record {
         unique = ids.unique;
         named = λ q other q_is. elim (put-lookup before.ids.entries after.ids.entries number q name other ids q_is) [
-          | inl h ↦ (chunk, ap (λ (n : Name). chunk_at after.stores.items n.owner n.key) (sym h.1) ∙ placed.here, sym body_is ∙ ap (λ (n : Name). n.body) h.1)
+          | inl h ↦ (chunk, ap (λ (n : StoredId). chunk_at after.stores.items n.owner n.key) (sym h.1) ∙ placed.here, sym body_is ∙ ap (λ (n : StoredId). n.body) h.1)
           | inr h ↦
               let has = linked.named q other h in
               (has.0, placed.others other.owner other.key (λ p q. none_not_some (ap (λ w. chunk_at before.stores.items w other.key) p ∙ ap (chunk_at before.stores.items name.owner) q ∙ free) has.1) ∙ has.1, has.2)
@@ -311,19 +311,19 @@ module _ {C : Type 0} where
             omega (arith, more, grown, same, linked.bodies);
       }
 
-  pub put-names : (before after : Parts C) (chunk : Chunk C) (number : ℕ) (name : Name) → IsLinked before None []
+  pub put-names : (before after : Parts C) (chunk : Chunk C) (number : ℕ) (name : StoredId) → IsLinked before None []
       → chunk_at before.stores.items name.owner name.key ≡ None
       → ArePlaced before.stores.items after.stores.items name.owner name.key (Some chunk)
       → map.get (bodies_of before.stores.items) chunk.number ≡ None
       → IsPut before.ids.entries after.ids.entries number name
-      → names_of after ≡ with_id (with_body (names_of before) chunk.number (shown_chunk name.owner chunk)) number (shown_name name)
+      → names_of after ≡ with_id (with_body (names_of before) chunk.number (shown_chunk name.owner chunk)) number (shown_id name)
   put-names before after chunk number name linked free placed new ids =
-      same_names (names_of after) (with_id (with_body (names_of before) chunk.number (shown_chunk name.owner chunk)) number (shown_name name))
+      same_names (names_of after) (with_id (with_body (names_of before) chunk.number (shown_chunk name.owner chunk)) number (shown_id name))
       (ids_of-insert before.ids.entries after.ids.entries number name ids.lookups)
       (bodies-inserted before.stores.items after.stores.items name.owner name.key chunk linked.apart free placed new)
 
   -- one more identifier of a body that another identifier names
-  pub added : (before after : Parts C) (source : ℕ) (from : Name) (chunk : Chunk C) (number : ℕ) (name : Name) → IsLinked before None []
+  pub added : (before after : Parts C) (source : ℕ) (from : StoredId) (chunk : Chunk C) (number : ℕ) (name : StoredId) → IsLinked before None []
       → lookup (nat_eq source) before.ids.entries ≡ Some from
       → chunk_at before.stores.items from.owner from.key ≡ Some chunk
       → ArePlaced before.stores.items after.stores.items from.owner from.key (Some (record chunk { names = chunk.names + 1 }))
@@ -339,8 +339,8 @@ module _ {C : Type 0} where
         named = λ q other q_is. elim (put-lookup before.ids.entries after.ids.entries number q name other ids q_is) [
           | inl h ↦ (
             new,
-            ap (λ (n : Name). chunk_at after.stores.items n.owner n.key) (sym h.1) ∙ ap (λ w. chunk_at after.stores.items w name.key) same_owner ∙ ap (chunk_at after.stores.items from.owner) same_key ∙ placed.here,
-            number_is ∙ sym same_body ∙ ap (λ (n : Name). n.body) h.1,
+            ap (λ (n : StoredId). chunk_at after.stores.items n.owner n.key) (sym h.1) ∙ ap (λ w. chunk_at after.stores.items w name.key) same_owner ∙ ap (chunk_at after.stores.items from.owner) same_key ∙ placed.here,
+            number_is ∙ sym same_body ∙ ap (λ (n : StoredId). n.body) h.1,
           )
           | inr h ↦ has-rewritten placed chunk at refl other.owner other.key other.body (linked.named q other h)
         ];
@@ -366,12 +366,12 @@ module _ {C : Type 0} where
         bodies = bodies ∙ linked.bodies ∙ ap (λ b. map.len b) (sym (bodies-rewritten before.stores.items after.stores.items from.owner from.key chunk new linked.apart at placed refl refl));
       }
 
-  pub added-names : (before after : Parts C) (from : Name) (chunk : Chunk C) (number : ℕ) (name : Name) → IsLinked before None []
+  pub added-names : (before after : Parts C) (from : StoredId) (chunk : Chunk C) (number : ℕ) (name : StoredId) → IsLinked before None []
       → chunk_at before.stores.items from.owner from.key ≡ Some chunk
       → ArePlaced before.stores.items after.stores.items from.owner from.key (Some (record chunk { names = chunk.names + 1 }))
       → IsPut before.ids.entries after.ids.entries number name
-      → names_of after ≡ with_id (names_of before) number (shown_name name)
+      → names_of after ≡ with_id (names_of before) number (shown_id name)
   added-names before after from chunk number name linked at placed ids =
-      same_names (names_of after) (with_id (names_of before) number (shown_name name))
+      same_names (names_of after) (with_id (names_of before) number (shown_id name))
       (ids_of-insert before.ids.entries after.ids.entries number name ids.lookups)
       (bodies-rewritten before.stores.items after.stores.items from.owner from.key chunk (record chunk { names = chunk.names + 1 }) linked.apart at placed refl refl)

@@ -5,7 +5,7 @@ use Rattle.std.specs.FinMap as map
 use Rattle.chunk_store.specs.Contents.{Contents as Stored}
 use Rattle.chunk_refs.specs.declared.parts.Chunk.{Chunk}
 use Rattle.chunk_refs.specs.Inside.{bodies_of, shown_chunk, chunk_at, AreApart, ArePlaced, HasChunk}
-use Rattle.chunk_refs.proofs.Basics.{same_some, same_place_or_not, none_not_some, inserted_here, inserted_other, inserted_from, removed_other, removed_from}
+use Rattle.name_states.proofs.Basics.{same_some, same_place_or_not, none_not_some, inserted_here, inserted_other, inserted_from, removed_other, removed_from}
 use Rattle.chunk_refs.proofs.Bodies.{shown-bodies_of, same_bodies}
 
 module _ {C : Type 0} where

@@ -1,12 +1,13 @@
 -- A body is registered: from the steps to what the call makes of the names.
 use Rattle.std.proofs.Common.{◌≡◌, ℕ, ◌+◌, ◌≤◌, List, take, drop, length, Some, sym, ap, subst, ◌∙◌, arith}
 use Rattle.cht_ids.specs.declared.refs.Ref.{Ref}
-use Rattle.chunk_refs.specs.declared.holder.Holder.{Holder}
-use Rattle.chunk_refs.specs.declared.holder.Holder.TheVariants.{Body}
+use Rattle.name_states.specs.declared.holder.Holder.{Holder}
+use Rattle.name_states.specs.declared.holder.Holder.TheVariants.{Body}
 use Rattle.chunk_refs.specs.declared.children.Children.{Children}
-use Rattle.chunk_refs.specs.Names.{Names, Naming, Room, naming_at, AreLive, IsLeft, spare_at}
-use Rattle.chunk_refs.specs.Steps.{with_id, with_body, linked, registered, numbered, present}
-use Rattle.chunk_refs.specs.Rules.{AreWithin}
+use Rattle.name_states.specs.States.{NameState, IdRecord, id_at, AreLive}
+use Rattle.chunk_refs.specs.Room.{Room, IsLeft, spare_at}
+use Rattle.name_states.specs.Steps.{with_id, with_body, linked, registered, numbered, present}
+use Rattle.name_states.specs.Rules.{AreWithin}
 use Rattle.chunk_refs.specs.Inside.{AreNull, all_four, refs_of}
 use Rattle.chunk_refs.proofs.Within.{within-more, within-id, within-body, unnamed-next, naming-kept, all-live-kept, linked-padded, numbered-padded, numbered-take, present-padded}
 
@@ -33,28 +34,28 @@ left-more before middle after worker used children padded left bodies ids = reco
 
 module _ {C : Type 0} where
   -- a body with its first identifier
-  abbrev pub with_both : Names C → ℕ → ℕ → Holder → ℕ → C → List Ref → Names C
+  abbrev pub with_both : NameState C → ℕ → ℕ → Holder → ℕ → C → List Ref → NameState C
   with_both names number name holder worker content refs =
       with_id (with_body names number (record { owner = worker; content = content; children = refs })) name (record { owner = worker; body = number; holder = holder })
 
-  pub within-both : (names : Names C) (drawn number name : ℕ) (holder : Holder) (worker : ℕ) (content : C) (refs : List Ref) → AreWithin names drawn → number ≡ drawn + 1 → name ≡ drawn + 2
+  pub within-both : (names : NameState C) (drawn number name : ℕ) (holder : Holder) (worker : ℕ) (content : C) (refs : List Ref) → AreWithin names drawn → number ≡ drawn + 1 → name ≡ drawn + 2
       → AreWithin (with_both names number name holder worker content refs) name
   within-both names drawn number name holder worker content refs within n m =
       within-id _ name _ name (within-body names number _ name (within-more names drawn name within (omega arith)) (omega arith)) (omega arith)
 
-  pub kept-both : (names : Names C) (drawn number name : ℕ) (holder : Holder) (worker : ℕ) (content : C) (refs : List Ref) → AreWithin names drawn → name ≡ drawn + 2
-      → (q : ℕ) (naming : Naming) → naming_at names q ≡ Some naming → naming_at (with_both names number name holder worker content refs) q ≡ Some naming
+  pub kept-both : (names : NameState C) (drawn number name : ℕ) (holder : Holder) (worker : ℕ) (content : C) (refs : List Ref) → AreWithin names drawn → name ≡ drawn + 2
+      → (q : ℕ) (naming : IdRecord) → id_at names q ≡ Some naming → id_at (with_both names number name holder worker content refs) q ≡ Some naming
   kept-both names drawn number name holder worker content refs within m q naming is =
       naming-kept names name (record { owner = worker; body = number; holder = holder }) q naming (unnamed-next names drawn name within (omega arith)) is
 
   -- the children stay live
-  pub live-both : (names middle : Names C) (drawn number name : ℕ) (holder : Holder) (worker : ℕ) (content : C) (refs children : List Ref) → AreWithin names drawn → name ≡ drawn + 2
+  pub live-both : (names middle : NameState C) (drawn number name : ℕ) (holder : Holder) (worker : ℕ) (content : C) (refs children : List Ref) → AreWithin names drawn → name ≡ drawn + 2
       → middle ≡ with_both names number name holder worker content refs
       → AreLive names children → AreLive middle children
   live-both names middle drawn number name holder worker content refs children within m is live =
       subst (λ n. AreLive n children) (sym is) (all-live-kept names (with_both names number name holder worker content refs) children (kept-both names drawn number name holder worker content refs within m) live)
 
-  pub register-names : (names middle after : Names C) (drawn number name : ℕ) (holder : Holder) (worker : ℕ) (content : C) (children own : Children)
+  pub register-names : (names middle after : NameState C) (drawn number name : ℕ) (holder : Holder) (worker : ℕ) (content : C) (children own : Children)
       → number ≡ drawn + 1 → name ≡ drawn + 2
       → AreNull (drop children.count (all_four children)) → own.count ≡ children.count → all_four own ≡ numbered name (all_four children)
       → middle ≡ with_both names number name holder worker content (refs_of own)

@@ -9,21 +9,22 @@ use Rattle.std.specs.Ordering.{nat_cmp}
 use Rattle.std.specs.Cmp.{nat_cmp_total}
 use Rattle.std.specs.FinMap as map
 use Rattle.chunk_store.specs.Contents.{Contents as Stored}
-use Rattle.chunk_refs.specs.declared.parts.Name.{Name}
+use Rattle.chunk_refs.specs.declared.parts.StoredId.{StoredId}
 use Rattle.chunk_refs.specs.declared.parts.Chunk.{Chunk}
 use Rattle.chunk_refs.specs.declared.parts.Parts.{Parts}
-use Rattle.chunk_refs.specs.Names.{no_names, spare_at}
-use Rattle.chunk_refs.specs.Inside.{names_of, ids_of, bodies_of, names_of_body, shown_name, chunk_at, chunk_in, AreApart, HasChain}
-use Rattle.chunk_refs.proofs.Basics.{none_not_some, same_or_not}
+use Rattle.name_states.specs.States.{no_names}
+use Rattle.chunk_refs.specs.Room.{spare_at}
+use Rattle.chunk_refs.specs.Inside.{names_of, ids_of, bodies_of, names_of_body, shown_id, chunk_at, chunk_in, AreApart, HasChain}
+use Rattle.name_states.proofs.Basics.{none_not_some, same_or_not}
 use Rattle.chunk_refs.proofs.Bodies.{same_bodies, shown-bodies_of}
 use Rattle.chunk_refs.proofs.Counts.{names-reordered}
 use Rattle.chunk_refs.proofs.Ending.{linked-same, names-same}
 use Rattle.chunk_refs.proofs.Ids.{get-ids_of}
 use Rattle.chunk_refs.proofs.Stores.{get-set_here, get-set_other, spare_at-spares, spare_in}
 
-no-ids : (es : List (ℕ × Name)) → es ≡ [] → ids_of es ≡ map.empty
+no-ids : (es : List (ℕ × StoredId)) → es ≡ [] → ids_of es ≡ map.empty
 no-ids es is = map.same_map nat_cmp_total map.nat_cmp-IsAntisymmetric (ids_of es) map.empty (λ q.
-    get-ids_of es q ∙ ap (λ xs. option_map shown_name (lookup (nat_eq q) xs)) is ∙ sym (map.get-empty nat_cmp q))
+    get-ids_of es q ∙ ap (λ xs. option_map shown_id (lookup (nat_eq q) xs)) is ∙ sym (map.get-empty nat_cmp q))
 
 module _ {C : Type 0} where
   -- the identifiers in another order

@@ -5,9 +5,9 @@ use Rattle.std.proofs.lemmas.List.{length-set}
 use Rattle.std.proofs.lemmas.Option.{get_or_from_slice_get}
 use Rattle.chunk_store.specs.Contents.{Contents as Stored, value_at, with_value}
 use Rattle.chunk_refs.specs.declared.parts.Chunk.{Chunk}
-use Rattle.chunk_refs.specs.Names.{spare_at, IsAtLeast, IsLeft}
+use Rattle.chunk_refs.specs.Room.{spare_at, IsAtLeast, IsLeft}
 use Rattle.chunk_refs.specs.Inside.{chunk_at, chunk_in, ArePlaced}
-use Rattle.chunk_refs.proofs.Basics.{same_or_not, same_some, some_value, inserted_here, inserted_other}
+use Rattle.name_states.proofs.Basics.{same_or_not, same_some, some_value, inserted_here, inserted_other}
 
 pub get-set_here : {X : Type 0} (xs : List X) (i : ℕ) (y x : X) → slice_get xs i ≡ Some x → slice_get (slice_set xs i y) i ≡ Some y
 get-set_here [] i y x is = absurd (cc)

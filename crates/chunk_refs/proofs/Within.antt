@@ -5,12 +5,12 @@ use Rattle.std.specs.FinMap as map
 use Rattle.cht_ids.specs.declared.refs.Id.{Id}
 use Rattle.cht_ids.specs.declared.refs.Ref.{Ref}
 use Rattle.cht_ids.specs.declared.refs.Ref.TheVariants.{Null, Id as Held}
-use Rattle.chunk_refs.specs.declared.holder.Holder.{Holder}
-use Rattle.chunk_refs.specs.Names.{Names, Naming, Registered, naming_at, body_at, naming_of, owned_by, IsLive, IsLiveRef, AreLive}
-use Rattle.chunk_refs.specs.Steps.{with_id, with_body, with_naming, copied, linked_ref, linked, drawn_by, present, numbered, numbered_ref}
-use Rattle.chunk_refs.specs.Rules.{AreWithin}
+use Rattle.name_states.specs.declared.holder.Holder.{Holder}
+use Rattle.name_states.specs.States.{NameState, IdRecord, BodyRecord, id_at, body_at, record_of, owned_by, IsLive, IsLiveRef, AreLive}
+use Rattle.name_states.specs.Steps.{with_id, with_body, with_naming, copied, linked_ref, linked, drawn_by, present, numbered, numbered_ref}
+use Rattle.name_states.specs.Rules.{AreWithin}
 use Rattle.chunk_refs.specs.Inside.{AreNull}
-use Rattle.chunk_refs.proofs.Basics.{none_not_some, some_value, same_some, same_from_test, test_same, inserted_from, inserted_other}
+use Rattle.name_states.proofs.Basics.{none_not_some, some_value, same_some, same_from_test, test_same, inserted_from, inserted_other}
 
 none_past : {X : Type 0} (found : Option X) (number bound : ℕ) → (IsSome found → number ≤ bound) → bound < number → found ≡ None
 none_past None number bound low past = refl
@@ -25,92 +25,92 @@ inserted-within m key value bound within low q some =
       | inr h ↦ within q (ap is_some h.1)
     ]
 
-live-owned : (owner : ℕ) (found other : Option Naming) → ((naming : Naming) → found ≡ Some naming → other ≡ Some naming) → IsSome (owned_by owner found) → owned_by owner other ≡ owned_by owner found
+live-owned : (owner : ℕ) (found other : Option IdRecord) → ((naming : IdRecord) → found ≡ Some naming → other ≡ Some naming) → IsSome (owned_by owner found) → owned_by owner other ≡ owned_by owner found
 live-owned owner None other same some = absurd (none_not_some refl (some_value (owned_by owner None) some).1)
 live-owned owner (Some naming) other same some = ap (owned_by owner) (same naming refl)
 
-behind_owner : (owner : ℕ) (found : Option Naming) → IsSome (owned_by owner found) → (naming : Naming) × (found ≡ Some naming) × (naming.owner ≡ owner)
+behind_owner : (owner : ℕ) (found : Option IdRecord) → IsSome (owned_by owner found) → (naming : IdRecord) × (found ≡ Some naming) × (naming.owner ≡ owner)
 behind_owner owner None some = absurd (cc)
 behind_owner owner (Some naming) some =
-    elim (nat_eq naming.owner owner) as (λ t. nat_eq naming.owner owner ≡ t → IsSome (cond t (Some naming) None) → (n : Naming) × (◌≡◌ {A = Option Naming} (Some naming) (Some n)) × (n.owner ≡ owner)) [
+    elim (nat_eq naming.owner owner) as (λ t. nat_eq naming.owner owner ≡ t → IsSome (cond t (Some naming) None) → (n : IdRecord) × (◌≡◌ {A = Option IdRecord} (Some naming) (Some n)) × (n.owner ≡ owner)) [
       | true ↦ λ same present. (naming, refl, same_from_test naming.owner owner same)
-      | false ↦ λ apart present. absurd (none_not_some refl (some_value {X = Naming} None present).1)
+      | false ↦ λ apart present. absurd (none_not_some refl (some_value {X = IdRecord} None present).1)
     ] refl some
 
 -- a naming of an owner
-pub owned-same : (owner : ℕ) (naming : Naming) → naming.owner ≡ owner → owned_by owner (Some naming) ≡ Some naming
+pub owned-same : (owner : ℕ) (naming : IdRecord) → naming.owner ≡ owner → owned_by owner (Some naming) ≡ Some naming
 owned-same owner naming same = ap (λ b. cond b (Some naming) None) (ap (λ o. nat_eq o owner) same ∙ test_same owner)
 
 module _ {C : Type 0} where
   -- a number that was not drawn yet names nothing
-  pub unnamed-next : (names : Names C) (bound number : ℕ) → AreWithin names bound → bound < number → naming_at names number ≡ None
-  unnamed-next names bound number within past = none_past (naming_at names number) number bound (within.ids number) past
+  pub unnamed-next : (names : NameState C) (bound number : ℕ) → AreWithin names bound → bound < number → id_at names number ≡ None
+  unnamed-next names bound number within past = none_past (id_at names number) number bound (within.ids number) past
 
-  pub bodiless-next : (names : Names C) (bound number : ℕ) → AreWithin names bound → bound < number → body_at names number ≡ None
+  pub bodiless-next : (names : NameState C) (bound number : ℕ) → AreWithin names bound → bound < number → body_at names number ≡ None
   bodiless-next names bound number within past = none_past (body_at names number) number bound (within.bodies number) past
 
-  pub within-more : (names : Names C) (bound more : ℕ) → AreWithin names bound → bound ≤ more → AreWithin names more
+  pub within-more : (names : NameState C) (bound more : ℕ) → AreWithin names bound → bound ≤ more → AreWithin names more
   within-more names bound more within low = record { ids = λ q some. omega (arith, within.ids q some, low); bodies = λ q some. omega (arith, within.bodies q some, low) }
 
-  pub within-id : (names : Names C) (number : ℕ) (naming : Naming) (bound : ℕ) → AreWithin names bound → number ≤ bound → AreWithin (with_id names number naming) bound
+  pub within-id : (names : NameState C) (number : ℕ) (naming : IdRecord) (bound : ℕ) → AreWithin names bound → number ≤ bound → AreWithin (with_id names number naming) bound
   within-id names number naming bound within low = record { ids = inserted-within names.ids number naming bound within.ids low; bodies = within.bodies }
 
-  pub within-body : (names : Names C) (number : ℕ) (body : Registered C) (bound : ℕ) → AreWithin names bound → number ≤ bound → AreWithin (with_body names number body) bound
+  pub within-body : (names : NameState C) (number : ℕ) (body : BodyRecord C) (bound : ℕ) → AreWithin names bound → number ≤ bound → AreWithin (with_body names number body) bound
   within-body names number body bound within low = record { ids = within.ids; bodies = inserted-within names.bodies number body bound within.bodies low }
 
-  within-naming : (names : Names C) (number : ℕ) (holder : Holder) (found : Option Naming) (bound : ℕ) → AreWithin names bound → number ≤ bound → AreWithin (with_naming names number holder found) bound
+  within-naming : (names : NameState C) (number : ℕ) (holder : Holder) (found : Option IdRecord) (bound : ℕ) → AreWithin names bound → number ≤ bound → AreWithin (with_naming names number holder found) bound
   within-naming names number holder None bound within low = within
   within-naming names number holder (Some naming) bound within low = within-id names number (record naming { holder = holder }) bound within low
 
-  pub within-copied : (names : Names C) (from number : ℕ) (holder : Holder) (bound : ℕ) → AreWithin names bound → number ≤ bound → AreWithin (copied names from number holder) bound
-  within-copied names from number holder bound within low = within-naming names number holder (naming_at names from) bound within low
+  pub within-copied : (names : NameState C) (from number : ℕ) (holder : Holder) (bound : ℕ) → AreWithin names bound → number ≤ bound → AreWithin (copied names from number holder) bound
+  within-copied names from number holder bound within low = within-naming names number holder (id_at names from) bound within low
 
-  pub within-linked_ref : (names : Names C) (drawn : ℕ) (holder : Holder) (child : Ref) → AreWithin names drawn → AreWithin (linked_ref names drawn holder child) (drawn + drawn_by child)
+  pub within-linked_ref : (names : NameState C) (drawn : ℕ) (holder : Holder) (child : Ref) → AreWithin names drawn → AreWithin (linked_ref names drawn holder child) (drawn + drawn_by child)
   within-linked_ref names drawn holder Null within = within-more names drawn (drawn + 0) within (omega arith)
   within-linked_ref names drawn holder (Held id) within = within-copied names id.number (drawn + 1) holder (drawn + 1) (within-more names drawn (drawn + 1) within (omega arith)) (omega arith)
 
   -- what a free number gets leaves the others as they were
-  pub naming-kept : (names : Names C) (number : ℕ) (naming : Naming) (q : ℕ) (other : Naming) → naming_at names number ≡ None → naming_at names q ≡ Some other → naming_at (with_id names number naming) q ≡ Some other
-  naming-kept names number naming q other free is = inserted_other names.ids number q naming (λ same. none_not_some (ap (naming_at names) same ∙ free) is) ∙ is
+  pub naming-kept : (names : NameState C) (number : ℕ) (naming : IdRecord) (q : ℕ) (other : IdRecord) → id_at names number ≡ None → id_at names q ≡ Some other → id_at (with_id names number naming) q ≡ Some other
+  naming-kept names number naming q other free is = inserted_other names.ids number q naming (λ same. none_not_some (ap (id_at names) same ∙ free) is) ∙ is
 
   -- an identifier that is live names what it named, where each number that named something names it still
-  pub naming_of-kept : (names more : Names C) (id : Id) → ((q : ℕ) (naming : Naming) → naming_at names q ≡ Some naming → naming_at more q ≡ Some naming) → IsLive names id → naming_of more id ≡ naming_of names id
-  naming_of-kept names more id kept live = live-owned id.owner (naming_at names id.number) (naming_at more id.number) (kept id.number) live
+  pub naming_of-kept : (names more : NameState C) (id : Id) → ((q : ℕ) (naming : IdRecord) → id_at names q ≡ Some naming → id_at more q ≡ Some naming) → IsLive names id → record_of more id ≡ record_of names id
+  naming_of-kept names more id kept live = live-owned id.owner (id_at names id.number) (id_at more id.number) (kept id.number) live
 
-  pub live-kept : (names more : Names C) (r : Ref) → ((q : ℕ) (naming : Naming) → naming_at names q ≡ Some naming → naming_at more q ≡ Some naming) → IsLiveRef names r → IsLiveRef more r
+  pub live-kept : (names more : NameState C) (r : Ref) → ((q : ℕ) (naming : IdRecord) → id_at names q ≡ Some naming → id_at more q ≡ Some naming) → IsLiveRef names r → IsLiveRef more r
   live-kept names more Null kept live = tt
   live-kept names more (Held id) kept live = ap is_some (naming_of-kept names more id kept live) ∙ live
 
-  pub all-live-kept : (names more : Names C) (refs : List Ref) → ((q : ℕ) (naming : Naming) → naming_at names q ≡ Some naming → naming_at more q ≡ Some naming) → AreLive names refs → AreLive more refs
+  pub all-live-kept : (names more : NameState C) (refs : List Ref) → ((q : ℕ) (naming : IdRecord) → id_at names q ≡ Some naming → id_at more q ≡ Some naming) → AreLive names refs → AreLive more refs
   all-live-kept names more [] kept live = tt
   all-live-kept names more (r ∷ refs) kept live = (live-kept names more r kept live.0, all-live-kept names more refs kept live.1)
 
-  kept-naming : (names : Names C) (number : ℕ) (holder : Holder) (found : Option Naming) → naming_at names number ≡ None
-      → (q : ℕ) (naming : Naming) → naming_at names q ≡ Some naming → naming_at (with_naming names number holder found) q ≡ Some naming
+  kept-naming : (names : NameState C) (number : ℕ) (holder : Holder) (found : Option IdRecord) → id_at names number ≡ None
+      → (q : ℕ) (naming : IdRecord) → id_at names q ≡ Some naming → id_at (with_naming names number holder found) q ≡ Some naming
   kept-naming names number holder None free q naming is = is
   kept-naming names number holder (Some from) free q naming is = naming-kept names number (record from { holder = holder }) q naming free is
 
-  pub copied-keeps : (names : Names C) (from number : ℕ) (holder : Holder) → naming_at names number ≡ None
-      → (q : ℕ) (naming : Naming) → naming_at names q ≡ Some naming → naming_at (copied names from number holder) q ≡ Some naming
-  copied-keeps names from number holder free q naming is = kept-naming names number holder (naming_at names from) free q naming is
+  pub copied-keeps : (names : NameState C) (from number : ℕ) (holder : Holder) → id_at names number ≡ None
+      → (q : ℕ) (naming : IdRecord) → id_at names q ≡ Some naming → id_at (copied names from number holder) q ≡ Some naming
+  copied-keeps names from number holder free q naming is = kept-naming names number holder (id_at names from) free q naming is
 
-  pub linked_ref-keeps : (names : Names C) (drawn : ℕ) (holder : Holder) (child : Ref) → AreWithin names drawn
-      → (q : ℕ) (naming : Naming) → naming_at names q ≡ Some naming → naming_at (linked_ref names drawn holder child) q ≡ Some naming
+  pub linked_ref-keeps : (names : NameState C) (drawn : ℕ) (holder : Holder) (child : Ref) → AreWithin names drawn
+      → (q : ℕ) (naming : IdRecord) → id_at names q ≡ Some naming → id_at (linked_ref names drawn holder child) q ≡ Some naming
   linked_ref-keeps names drawn holder Null within q naming is = is
   linked_ref-keeps names drawn holder (Held id) within q naming is = copied-keeps names id.number (drawn + 1) holder (unnamed-next names drawn (drawn + 1) within (omega arith)) q naming is
 
   -- a live identifier has a naming under its number
-  pub live-number : (names : Names C) (id : Id) → IsLive names id → (naming : Naming) × (naming_at names id.number ≡ Some naming) × (naming.owner ≡ id.owner)
-  live-number names id live = behind_owner id.owner (naming_at names id.number) live
+  pub live-number : (names : NameState C) (id : Id) → IsLive names id → (naming : IdRecord) × (id_at names id.number ≡ Some naming) × (naming.owner ≡ id.owner)
+  live-number names id live = behind_owner id.owner (id_at names id.number) live
 
 -- what an identifier names is what its number names, with its owner
-pub naming-number : {C : Type 0} (names : Names C) (id : Id) (naming : Naming) → naming_of names id ≡ Some naming → (naming_at names id.number ≡ Some naming) × (naming.owner ≡ id.owner)
+pub naming-number : {C : Type 0} (names : NameState C) (id : Id) (naming : IdRecord) → record_of names id ≡ Some naming → (id_at names id.number ≡ Some naming) × (naming.owner ≡ id.owner)
 naming-number names id naming is =
     let live = live-number names id (ap is_some is) in
     let same : live.0 ≡ naming = same_some live.0 naming (sym (ap (owned_by id.owner) live.1 ∙ owned-same id.owner live.0 live.2) ∙ is) in
-    (live.1 ∙ ap Some same, ap (λ (n : Naming). n.owner) (sym same) ∙ live.2)
+    (live.1 ∙ ap Some same, ap (λ (n : IdRecord). n.owner) (sym same) ∙ live.2)
 
-pub number-naming : {C : Type 0} (names : Names C) (id : Id) (naming : Naming) → naming_at names id.number ≡ Some naming → naming.owner ≡ id.owner → naming_of names id ≡ Some naming
+pub number-naming : {C : Type 0} (names : NameState C) (id : Id) (naming : IdRecord) → id_at names id.number ≡ Some naming → naming.owner ≡ id.owner → record_of names id ≡ Some naming
 number-naming names id naming is owner = ap (owned_by id.owner) is ∙ owned-same id.owner naming owner
 
 -- what stands past the last child says nothing
@@ -120,13 +120,13 @@ present-padded zero (r ∷ refs) null = omega (arith, ap drawn_by null.0, presen
 present-padded (suc count) [] null = refl
 present-padded (suc count) (r ∷ refs) null = ap (λ n. drawn_by r + n) (present-padded count refs null)
 
-pub live-padded : {C : Type 0} (names : Names C) (count : ℕ) (refs : List Ref) → AreNull (drop count refs) → AreLive names (take count refs) → AreLive names refs
+pub live-padded : {C : Type 0} (names : NameState C) (count : ℕ) (refs : List Ref) → AreNull (drop count refs) → AreLive names (take count refs) → AreLive names refs
 live-padded names zero [] null live = tt
 live-padded names zero (r ∷ refs) null live = (subst (IsLiveRef names) (sym null.0) tt, live-padded names zero refs null.1 tt)
 live-padded names (suc count) [] null live = tt
 live-padded names (suc count) (r ∷ refs) null live = (live.0, live-padded names count refs null live.1)
 
-pub linked-padded : {C : Type 0} (names : Names C) (drawn : ℕ) (holder : Holder) (count : ℕ) (refs : List Ref) → AreNull (drop count refs) → linked names drawn holder refs ≡ linked names drawn holder (take count refs)
+pub linked-padded : {C : Type 0} (names : NameState C) (drawn : ℕ) (holder : Holder) (count : ℕ) (refs : List Ref) → AreNull (drop count refs) → linked names drawn holder refs ≡ linked names drawn holder (take count refs)
 linked-padded names drawn holder zero [] null = refl
 linked-padded names drawn holder zero (Null ∷ refs) null = linked-padded names (drawn + 0) holder zero refs null.1
 linked-padded names drawn holder zero (Held id ∷ refs) null = absurd (let clash : Held id ≡ Null = null.0 in cc)
@@ -146,11 +146,11 @@ numbered-take drawn (suc count) [] = refl
 numbered-take drawn (suc count) (r ∷ refs) = ap (λ rest. numbered_ref drawn r ∷ rest) (numbered-take (drawn + drawn_by r) count refs)
 
 -- after a copy with the next number
-pub copy-within : {C : Type 0} (names after : Names C) (drawn from : ℕ) (holder : Holder) → AreWithin names drawn → after ≡ copied names from (drawn + 1) holder → AreWithin after (drawn + 1)
+pub copy-within : {C : Type 0} (names after : NameState C) (drawn from : ℕ) (holder : Holder) → AreWithin names drawn → after ≡ copied names from (drawn + 1) holder → AreWithin after (drawn + 1)
 copy-within names after drawn from holder within is =
     subst (λ n. AreWithin n (drawn + 1)) (sym is) (within-copied names from (drawn + 1) holder (drawn + 1) (within-more names drawn (drawn + 1) within (omega arith)) (omega arith))
 
-pub copy-live : {C : Type 0} (names after : Names C) (drawn from : ℕ) (holder : Holder) → AreWithin names drawn → after ≡ copied names from (drawn + 1) holder
+pub copy-live : {C : Type 0} (names after : NameState C) (drawn from : ℕ) (holder : Holder) → AreWithin names drawn → after ≡ copied names from (drawn + 1) holder
     → (r : Ref) → IsLiveRef names r → IsLiveRef after r
 copy-live names after drawn from holder within is r live =
     subst (λ n. IsLiveRef n r) (sym is) (live-kept names (copied names from (drawn + 1) holder) r (copied-keeps names from (drawn + 1) holder (unnamed-next names drawn (drawn + 1) within (omega arith))) live)

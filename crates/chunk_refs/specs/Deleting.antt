@@ -3,26 +3,24 @@ use Rattle.std.specs.Prelude.{◌≡◌, ℕ, ◌+◌, ◌⊎◌, List, [], ◌�
 use Rattle.cht_ids.specs.declared.refs.Ref.{Ref}
 use Rattle.cht_ids.specs.declared.refs.Ref.TheVariants.{Null, Id as Held}
 use Rattle.chunk_store.specs.Contents.{Contents as Stored}
-use Rattle.chunk_refs.specs.declared.parts.Name.{Name}
+use Rattle.chunk_refs.specs.declared.parts.StoredId.{StoredId}
 use Rattle.chunk_refs.specs.declared.parts.Spot.{Spot}
 use Rattle.chunk_refs.specs.declared.parts.Chunk.{Chunk}
-use Rattle.chunk_refs.specs.Names.{Names, Naming, Registered, naming_at, body_at}
-use Rattle.chunk_refs.specs.Steps.{without_id, without_body}
-use Rattle.chunk_refs.specs.declared.holder.Holder.{Holder}
-use Rattle.chunk_refs.specs.declared.holder.Holder.TheVariants.{Caller, Task, Body}
-use Rattle.chunk_refs.specs.Reached.{IsReached}
-use Rattle.chunk_refs.specs.Rules.{IsSound}
+use Rattle.name_states.specs.States.{NameState, IdRecord, BodyRecord, id_at, body_at}
+use Rattle.name_states.specs.Steps.{without_id, without_body}
+use Rattle.name_states.specs.Reached.{IsReached, IsHeldUp}
+use Rattle.name_states.specs.Rules.{IsSound}
 use Rattle.chunk_refs.specs.Inside.{ArePlaced}
 
 module _ {C : Type 0} where
   -- the last identifier of the body in a place ended, and the body comes in front of the chain
-  pub record IsLast (before after : List (Stored (Chunk C))) (name : Name) (chunk : Chunk C) (first later : Option Spot) : Type 0 where
+  pub record IsLast (before after : List (Stored (Chunk C))) (name : StoredId) (chunk : Chunk C) (first later : Option Spot) : Type 0 where
     pub one : chunk.names ≡ 1
     pub placed : ArePlaced before after name.owner name.key (Some (record chunk { names = 0; next = first }))
     pub front : later ≡ Some (record { owner = name.owner; key = name.key })
 
   -- the body in a place counts one identifier less, and has others
-  pub record IsOneLess (before after : List (Stored (Chunk C))) (name : Name) (chunk : Chunk C) (first later : Option Spot) : Type 0 where
+  pub record IsOneLess (before after : List (Stored (Chunk C))) (name : StoredId) (chunk : Chunk C) (first later : Option Spot) : Type 0 where
     pub left : ℕ
     pub less : left + 1 ≡ chunk.names
     pub some_left : left ≡ 0 → ⊥
@@ -30,32 +28,26 @@ module _ {C : Type 0} where
     pub front : later ≡ first
 
   -- the one or the other
-  abbrev pub IsReleased : List (Stored (Chunk C)) → List (Stored (Chunk C)) → Name → Chunk C → Option Spot → Option Spot → Type 0
+  abbrev pub IsReleased : List (Stored (Chunk C)) → List (Stored (Chunk C)) → StoredId → Chunk C → Option Spot → Option Spot → Type 0
   IsReleased before after name chunk first later = IsLast before after name chunk first later ⊎ IsOneLess before after name chunk first later
 
   -- all but the identifiers among these references
-  abbrev pub without_refs : Names C → List Ref → Names C
+  abbrev pub without_refs : NameState C → List Ref → NameState C
   without_refs names [] = names
   without_refs names (Null ∷ refs) = without_refs names refs
   without_refs names (Held id ∷ refs) = without_refs (without_id names id.number) refs
 
   -- one body that no identifier names went, with the identifiers of its children
-  abbrev pub IsTaken : Names C → Names C → Type 0
+  abbrev pub IsTaken : NameState C → NameState C → Type 0
   IsTaken before after =
-      (number : ℕ) × (body : Registered C) × (body_at before number ≡ Some body)
-      × ((id : ℕ) (naming : Naming) → naming_at before id ≡ Some naming → naming.body ≡ number → ⊥)
+      (number : ℕ) × (body : BodyRecord C) × (body_at before number ≡ Some body)
+      × ((id : ℕ) (naming : IdRecord) → id_at before id ≡ Some naming → naming.body ≡ number → ⊥)
       × (after ≡ without_refs (without_body before number) body.children)
 
-  -- what holds its identifiers for good: a caller, a task, or a body that is reached
-  abbrev pub IsHeldUp : Names C → Holder → Type 0
-  IsHeldUp names (Caller caller) = Unit {0}
-  IsHeldUp names (Task task) = Unit {0}
-  IsHeldUp names (Body body) = IsReached names body
-
   -- A deletion so far: nothing is new, and what was reached when it began is as it was.
-  pub record IsPartial (arity : C → ℕ) (before now : Names C) : Type 0 where
+  pub record IsPartial (arity : C → ℕ) (before now : NameState C) : Type 0 where
     pub sound : IsSound arity now
-    pub ids : (number : ℕ) (naming : Naming) → naming_at now number ≡ Some naming → naming_at before number ≡ Some naming
-    pub bodies : (number : ℕ) (body : Registered C) → body_at now number ≡ Some body → body_at before number ≡ Some body
-    pub ids_stay : (number : ℕ) (naming : Naming) → naming_at before number ≡ Some naming → IsHeldUp before naming.holder → naming_at now number ≡ Some naming
-    pub bodies_stay : (number : ℕ) (body : Registered C) → body_at before number ≡ Some body → IsReached before number → body_at now number ≡ Some body
+    pub ids : (number : ℕ) (naming : IdRecord) → id_at now number ≡ Some naming → id_at before number ≡ Some naming
+    pub bodies : (number : ℕ) (body : BodyRecord C) → body_at now number ≡ Some body → body_at before number ≡ Some body
+    pub ids_stay : (number : ℕ) (naming : IdRecord) → id_at before number ≡ Some naming → IsHeldUp before naming.holder → id_at now number ≡ Some naming
+    pub bodies_stay : (number : ℕ) (body : BodyRecord C) → body_at before number ≡ Some body → IsReached before number → body_at now number ≡ Some body

@@ -8,20 +8,21 @@ use Rattle.std.specs.FinMap as map
 use Rattle.cht_ids.specs.declared.refs.Ref.{Ref}
 use Rattle.cht_ids.specs.declared.refs.Ref.TheVariants.{Null}
 use Rattle.chunk_store.specs.Contents.{Contents as Stored, value_at}
-use Rattle.chunk_refs.specs.declared.parts.Name.{Name}
+use Rattle.chunk_refs.specs.declared.parts.StoredId.{StoredId}
 use Rattle.chunk_refs.specs.declared.parts.Spot.{Spot}
 use Rattle.chunk_refs.specs.declared.children.Children.{Children}
 use Rattle.chunk_refs.specs.declared.parts.Chunk.{Chunk}
 use Rattle.chunk_refs.specs.declared.parts.Parts.{Parts}
-use Rattle.chunk_refs.specs.Names.{Naming, Registered, Names, Room}
+use Rattle.name_states.specs.States.{IdRecord, BodyRecord, NameState}
+use Rattle.chunk_refs.specs.Room.{Room}
 
 -- what a stored name names
-abbrev pub shown_name : Name → Naming
-shown_name name = record { owner = name.owner; body = name.body; holder = name.holder }
+abbrev pub shown_id : StoredId → IdRecord
+shown_id name = record { owner = name.owner; body = name.body; holder = name.holder }
 
 -- the live identifiers of a hash map's entries
-unfoldable pub ids_of : List (ℕ × Name) → map.FinMap nat_cmp Naming
-ids_of es = map.from_entries (each (λ e. (e.0, shown_name e.1)) es)
+unfoldable pub ids_of : List (ℕ × StoredId) → map.FinMap nat_cmp IdRecord
+ids_of es = map.from_entries (each (λ e. (e.0, shown_id e.1)) es)
 
 -- all four references of the children, null ones after the last child
 abbrev pub all_four : Children → List Ref
@@ -37,18 +38,18 @@ AreNull [] = Unit {0}
 AreNull (r ∷ refs) = (r ≡ Null) × AreNull refs
 
 -- how many identifiers name a body
-abbrev pub names_of_body : ℕ → List (ℕ × Name) → ℕ
+abbrev pub names_of_body : ℕ → List (ℕ × StoredId) → ℕ
 names_of_body body es = count_by (λ name. name.body == body) (values_of es)
 
 -- one identifier more
-pub record IsPut (before after : List (ℕ × Name)) (number : ℕ) (name : Name) : Type 0 where
+pub record IsPut (before after : List (ℕ × StoredId)) (number : ℕ) (name : StoredId) : Type 0 where
   pub lookups : (q : ℕ) → lookup (nat_eq q) after ≡ if nat_eq number q then Some name else lookup (nat_eq q) before
   pub counts : (body : ℕ) → names_of_body body after ≡ names_of_body body before + (if name.body == body then 1 else 0)
   pub unique : IsDistinct nat_eq (keys_of after)
 
 module _ {C : Type 0} where
   -- a body in the store of an owner, as contracts see it
-  abbrev pub shown_chunk : ℕ → Chunk C → Registered C
+  abbrev pub shown_chunk : ℕ → Chunk C → BodyRecord C
   shown_chunk owner chunk = record { owner = owner; content = chunk.body; children = refs_of chunk.children }
 
   -- what a store holds under a key, if there is such a store
@@ -61,26 +62,26 @@ module _ {C : Type 0} where
   chunk_at stores owner key = chunk_in (slice_get stores owner) key
 
   -- a body by its number, in front of others
-  abbrev pub onto : ℕ → Option (Chunk C) → List (ℕ × Registered C) → List (ℕ × Registered C)
+  abbrev pub onto : ℕ → Option (Chunk C) → List (ℕ × BodyRecord C) → List (ℕ × BodyRecord C)
   onto owner None bodies = bodies
   onto owner (Some chunk) bodies = (chunk.number, shown_chunk owner chunk) ∷ bodies
 
   -- the bodies that a store holds under these keys
-  abbrev pub under_keys : ℕ → Stored (Chunk C) → List ℕ → List (ℕ × Registered C)
+  abbrev pub under_keys : ℕ → Stored (Chunk C) → List ℕ → List (ℕ × BodyRecord C)
   under_keys owner stored [] = []
   under_keys owner stored (key ∷ keys) = onto owner (value_at stored key) (under_keys owner stored keys)
 
   -- the bodies of all stores, whose owners count from a number
-  abbrev pub in_stores : ℕ → List (Stored (Chunk C)) → List (ℕ × Registered C)
+  abbrev pub in_stores : ℕ → List (Stored (Chunk C)) → List (ℕ × BodyRecord C)
   in_stores owner [] = []
   in_stores owner (stored ∷ stores) = under_keys owner stored (map.keys stored.held) ++ in_stores (suc owner) stores
 
   -- the bodies of all stores by number
-  unfoldable pub bodies_of : List (Stored (Chunk C)) → map.FinMap nat_cmp (Registered C)
+  unfoldable pub bodies_of : List (Stored (Chunk C)) → map.FinMap nat_cmp (BodyRecord C)
   bodies_of stores = map.from_entries (in_stores 0 stores)
 
   -- the names that the fields stand for
-  abbrev pub names_of : Parts C → Names C
+  abbrev pub names_of : Parts C → NameState C
   names_of parts = record { ids = ids_of parts.ids.entries; bodies = bodies_of parts.stores.items }
 
   -- the room that they leave
@@ -114,7 +115,7 @@ module _ {C : Type 0} where
   -- a body without an identifier stands on the chain.
   pub record IsLinked (parts : Parts C) (first : Option Spot) (chain : List ℕ) : Type 0 where
     pub unique : IsDistinct nat_eq (keys_of parts.ids.entries)
-    pub named : (number : ℕ) (name : Name) → lookup (nat_eq number) parts.ids.entries ≡ Some name → HasChunk parts.stores.items name.owner name.key name.body
+    pub named : (number : ℕ) (name : StoredId) → lookup (nat_eq number) parts.ids.entries ≡ Some name → HasChunk parts.stores.items name.owner name.key name.body
     pub apart : AreApart parts.stores.items
     pub counted : (owner key : ℕ) (chunk : Chunk C) → chunk_at parts.stores.items owner key ≡ Some chunk → chunk.names ≡ names_of_body chunk.number parts.ids.entries
     pub padded : (owner key : ℕ) (chunk : Chunk C) → chunk_at parts.stores.items owner key ≡ Some chunk → AreNull (drop chunk.children.count (all_four chunk.children))

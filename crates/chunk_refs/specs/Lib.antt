@@ -1,9 +1,6 @@
 pub mod Codes
 pub mod Deleting
 pub mod Inside
-pub mod Names
 pub mod Others
-pub mod Reached
-pub mod Rules
-pub mod Steps
+pub mod Room
 pub mod Trees

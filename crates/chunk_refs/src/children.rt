@@ -1,6 +1,6 @@
 // The children of a body as four references.
 ghost use Rattle.std.specs.Prelude.{◌≡◌, ◌+◌, ◌≤◌, ◌<◌, ◌^◌, length, drop, slice_get, Some};
-ghost use Rattle.chunk_refs.specs.Steps.{drawn_by, present, numbered_ref, numbered};
+ghost use Rattle.name_states.specs.Steps.{drawn_by, present, numbered_ref, numbered};
 ghost use Rattle.chunk_refs.specs.Inside.{refs_of, all_four, AreNull};
 
 use cht_ids::{Counter, Id, Ref};

@@ -2,11 +2,10 @@
 #![tactic(auto)]
 
 mod children;
-mod holder;
 mod parts;
 mod refs;
 #[cfg(test)]
 mod tests;
 
-pub use holder::Holder;
+pub use name_states::Holder;
 pub use refs::Refs;

@@ -4,25 +4,26 @@ ghost use Rattle.std.specs.Option.{ForSome};
 ghost use Rattle.std.specs.HashMap.{spare};
 ghost use Rattle.std.specs.Map.{lookup};
 ghost use Rattle.chunk_store.specs.Contents.{value_at, with_value};
-ghost use Rattle.chunk_refs.specs.Names.{no_names, naming_at, naming_of, body_at, registered_of, holder_of, IsLive, IsLiveRef, AreLive, spare_at, IsAtLeast, IsLeft};
-ghost use Rattle.chunk_refs.specs.Steps.{IsOutside, with_id, with_body, copied, linked_ref, linked, registered, drawn_by, present, without_id};
+ghost use Rattle.name_states.specs.States.{no_names, id_at, record_of, body_at, body_record_of, holder_of, IsLive, IsLiveRef, AreLive};
+ghost use Rattle.chunk_refs.specs.Room.{spare_at, IsAtLeast, IsLeft};
+ghost use Rattle.name_states.specs.Steps.{IsOutside, with_id, with_body, copied, linked_ref, linked, registered, drawn_by, present, without_id};
 ghost use Rattle.cht_ids.specs.declared.refs.Ref.{Ref as AnyRef};
-ghost use Rattle.chunk_refs.specs.Reached.{swept};
-ghost use Rattle.chunk_refs.specs.Rules.{IsSound, AreWithin};
+ghost use Rattle.name_states.specs.Reached.{swept};
+ghost use Rattle.name_states.specs.Rules.{IsSound, AreWithin};
 ghost use Rattle.chunk_refs.specs.Deleting.{IsReleased, IsTaken, without_refs};
-ghost use Rattle.chunk_refs.specs.Inside.{names_of, room_of, shown_name, shown_chunk, refs_of, all_four, AreNull, chunk_at, ArePlaced, HasChain, IsPut};
+ghost use Rattle.chunk_refs.specs.Inside.{names_of, room_of, shown_id, shown_chunk, refs_of, all_four, AreNull, chunk_at, ArePlaced, HasChain, IsPut};
 
 use crate::children::Children;
-use crate::holder::Holder;
 use cht_ids::{Counter, Id, Memory, Ref};
 use chunk_store::Store;
+use name_states::Holder;
 use std::alloc::Global;
 use std::collections::HashMap;
 use task_types::{Body, Payload};
 
 // A live identifier: where its body stands, the body's number, and who holds the identifier.
 #[derive(Clone, Copy)]
-pub(crate) struct Name {
+pub(crate) struct StoredId {
     pub owner: u32,
     pub key: u64,
     pub body: u128,
@@ -50,7 +51,7 @@ pub(crate) struct Chunk<C: Payload> {
 // The live identifiers by number, a store for each worker, and how many bodies the stores hold.
 #[derive(Drop)]
 pub(crate) struct Parts<C: Payload> {
-    pub ids: HashMap<u128, Name>,
+    pub ids: HashMap<u128, StoredId>,
     pub stores: Vec<Store<Chunk<C>>>,
     pub bodies: u64,
 }
@@ -70,9 +71,9 @@ fn write<C: Payload>(store: &mut Store<Chunk<C>>, key: u64, names: u64, next: Op
 
 impl<C: Payload> Parts<C> {
     /// What a live identifier names, and where.
-    pub fn name(&self, id: Id) -> Name
+    pub fn name(&self, id: Id) -> StoredId
         requires { IsLive (names_of self.now) id }
-        ensures name { naming_of (names_of self.now) id ≡ Some (shown_name result) }
+        ensures name { record_of (names_of self.now) id ≡ Some (shown_id result) }
         ensures stored { lookup (nat_eq id.number) self.now.ids.entries ≡ Some result }
     {
         *self.ids.get(&id.number).unwrap()
@@ -128,7 +129,7 @@ impl<C: Payload> Parts<C> {
 
     // Counts one identifier less for the body of an identifier that ended. A body that has none left comes in front
     // of the chain, whose first body is answered.
-    fn release(&mut self, name: Name, first: Option<Spot>) -> Option<Spot>
+    fn release(&mut self, name: StoredId, first: Option<Spot>) -> Option<Spot>
         requires there { IsSome (chunk_at self.old.stores.items name.owner name.key) }
         requires counted { (chunk : _) → chunk_at self.old.stores.items name.owner name.key ≡ Some chunk → 0 < chunk.names }
         ensures released { (chunk : _) → chunk_at self.old.stores.items name.owner name.key ≡ Some chunk
@@ -222,8 +223,8 @@ impl<C: Payload> Parts<C> {
     }
 
     // Puts a name at a number that names nothing.
-    fn put_id(&mut self, number: u128, name: Name)
-        requires free { naming_at (names_of self.old) number ≡ None }
+    fn put_id(&mut self, number: u128, name: StoredId)
+        requires free { id_at (names_of self.old) number ≡ None }
         requires room { 1 ≤ (room_of self.old).ids }
         ensures put { IsPut self.old.ids.entries self.new.ids.entries number name }
         ensures room { (room_of self.old).ids ≤ (room_of self.new).ids + 1 }
@@ -236,8 +237,8 @@ impl<C: Payload> Parts<C> {
     /// One more identifier of the body that a live identifier names, with a number and a holder of its own.
     pub fn add(&mut self, from: u128, number: u128, holder: Holder)
         requires chain { HasChain self.old None }
-        requires live { IsSome (naming_at (names_of self.old) from) }
-        requires free { naming_at (names_of self.old) number ≡ None }
+        requires live { IsSome (id_at (names_of self.old) from) }
+        requires free { id_at (names_of self.old) number ≡ None }
         requires room { 1 ≤ (room_of self.old).ids }
         ensures names { names_of self.new ≡ copied (names_of self.old) from number holder }
         ensures chain { HasChain self.new None }
@@ -250,14 +251,14 @@ impl<C: Payload> Parts<C> {
         let names = chunk.names + 1;
         let next = chunk.next;
         self.set(source.owner, source.key, names, next);
-        self.put_id(number, Name { holder, ..source });
+        self.put_id(number, StoredId { holder, ..source });
     }
 
     // A new body with its first identifier.
     fn put(&mut self, number: u128, owner: u32, holder: Holder, chunk: Chunk<C>)
         requires chain { HasChain self.old None }
         requires within { owner < length self.old.stores.items }
-        requires free { naming_at (names_of self.old) number ≡ None }
+        requires free { id_at (names_of self.old) number ≡ None }
         requires new { body_at (names_of self.old) chunk.number ≡ None }
         requires one { chunk.names ≡ 1 }
         requires padded { AreNull (drop chunk.children.count (all_four chunk.children)) }
@@ -273,7 +274,7 @@ impl<C: Payload> Parts<C> {
         let key = self.insert(owner, chunk);
         self.put_id(
             number,
-            Name {
+            StoredId {
                 owner,
                 key,
                 body,
@@ -438,7 +439,7 @@ impl<C: Payload> Parts<C> {
     pub fn chunk_of(&self, id: Id) -> &Chunk<C>
         requires chain { HasChain self.now None }
         requires live { IsLive (names_of self.now) id }
-        ensures { registered_of (names_of self.now) id ≡ Some (shown_chunk id.owner result.now) }
+        ensures { body_record_of (names_of self.now) id ≡ Some (shown_chunk id.owner result.now) }
     {
         let name = self.name(id);
         self.chunk(name.owner, name.key)

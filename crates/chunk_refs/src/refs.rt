@@ -2,17 +2,18 @@ ghost use Rattle.std.specs.Prelude.{◌≡◌, ◌↔◌, ℕ, ◌+◌, ◌≤�
 ghost use Rattle.std.specs.Option.{ForSome};
 ghost use Rattle.cht_ids.specs.declared.refs.Ref.TheVariants.{Id as Held};
 ghost use Rattle.task_types.specs.Tree.{rooted, child};
-ghost use Rattle.chunk_refs.specs.Names.{Naming, naming_at, body_at, IsLive, AreLive, holder_of, body_of, content_of, children_of, no_names, workers_of, spare_of, live_ids, live_bodies, IsAtLeast, IsLeft};
+ghost use Rattle.name_states.specs.States.{IdRecord, id_at, body_at, IsLive, AreLive, holder_of, body_of, content_of, children_of, no_names, live_ids, live_bodies};
+ghost use Rattle.chunk_refs.specs.Room.{workers_of, spare_of, IsAtLeast, IsLeft};
 ghost use Rattle.chunk_refs.specs.Trees.{tree_of};
-ghost use Rattle.chunk_refs.specs.Steps.{IsOutside, present, numbered, registered, copied, without_id};
-ghost use Rattle.chunk_refs.specs.Reached.{IsReached, swept};
-ghost use Rattle.chunk_refs.specs.Rules.{IsSound, AreReached, AreWithin};
+ghost use Rattle.name_states.specs.Steps.{IsOutside, present, numbered, registered, copied, without_id};
+ghost use Rattle.name_states.specs.Reached.{IsReached, swept};
+ghost use Rattle.name_states.specs.Rules.{IsSound, AreReached, AreWithin};
 ghost use Rattle.chunk_refs.specs.Others.{AreAllAsBefore, AreRestAsBefore, AreOthersLive};
 
 use crate::children::Children;
-use crate::holder::Holder;
 use crate::parts::Parts;
 use cht_ids::{Counter, Id, Memory, Ref};
+use name_states::Holder;
 use std::alloc::Global;
 use std::marker::Model;
 use task_types::{Body, Payload};
@@ -28,7 +29,7 @@ pub struct Refs<C: Payload> {
 
 impl<C: Payload> Model for Refs<C> {
     ghost use Rattle.std.specs.Prelude.{None};
-    ghost use Rattle.chunk_refs.specs.Names.{Contents};
+    ghost use Rattle.chunk_refs.specs.Room.{Contents};
     ghost use Rattle.chunk_refs.specs.Codes.{contents_code};
 
     ghost Value = { Contents C };
@@ -36,7 +37,7 @@ impl<C: Payload> Model for Refs<C> {
     ghost coded = { contents_code C.code };
 
     ghost use Rattle.chunk_refs.specs.Inside.{names_of, room_of, HasChain};
-    ghost use Rattle.chunk_refs.specs.Rules.{IsSound};
+    ghost use Rattle.name_states.specs.Rules.{IsSound};
 
     ghost view = { λ refs. record { names = names_of refs.parts; room = room_of refs.parts } };
 
@@ -120,7 +121,7 @@ impl<C: Payload> Refs<C> {
     pub fn copy(&mut self, holder: Holder, id: Id, number: u128) -> Result<Id, Memory>
         requires holder { IsOutside holder }
         requires live { IsLive self.old.names id }
-        requires free { naming_at self.old.names number ≡ None }
+        requires free { id_at self.old.names number ≡ None }
         ensures id { IfOk result (λ new. new ≡ record { owner = id.owner; number = number }) }
         ensures names { OnOk result (self.new.names ≡ copied self.old.names id.number number holder) }
 
@@ -156,7 +157,7 @@ impl<C: Payload> Refs<C> {
 
         // The identifier itself goes, and every other one that a caller or a task holds stays. What stays is held by
         // whom it was and leads where it led.
-        ensures gone { naming_at self.new.names id.number ≡ None }
+        ensures gone { id_at self.new.names id.number ≡ None }
         ensures others { AreOthersLive self.old.names self.new.names id }
         ensures rest { AreRestAsBefore self.old.names self.new.names }
         ensures numbered { (bound : ℕ) → AreWithin self.old.names bound → AreWithin self.new.names bound }
@@ -219,7 +220,7 @@ impl<C: Payload> Refs<C> {
         ensures reached { AreReached self.now.names }
 
         // Where callers and tasks hold nothing, there is nothing.
-        ensures empty { ((number : ℕ) (naming : Naming) → naming_at self.now.names number ≡ Some naming → IsOutside naming.holder → ⊥)
+        ensures empty { ((number : ℕ) (naming : IdRecord) → id_at self.now.names number ≡ Some naming → IsOutside naming.holder → ⊥)
             → self.now.names ≡ no_names }
 
         // And there is nothing exactly where no identifier is live.

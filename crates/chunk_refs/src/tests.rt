@@ -1,7 +1,8 @@
 ghost use Rattle.std.specs.Prelude.{◌≡◌, ℕ, ◌+◌, ◌≤◌, ◌<◌, ◌^◌, length, IsTrue};
-ghost use Rattle.chunk_refs.specs.Names.{IsLiveRef, AreLive, workers_of};
-ghost use Rattle.chunk_refs.specs.Steps.{present};
-ghost use Rattle.chunk_refs.specs.Rules.{AreWithin};
+ghost use Rattle.name_states.specs.States.{IsLiveRef, AreLive};
+ghost use Rattle.chunk_refs.specs.Room.{workers_of};
+ghost use Rattle.name_states.specs.Steps.{present};
+ghost use Rattle.name_states.specs.Rules.{AreWithin};
 
 use crate::{Holder, Refs};
 use cht_ids::{Counter, Id, Memory, Ref};

@@ -1,4 +1,5 @@
 pub mod Facts
+pub mod Deciding
 pub mod FormedTest
 pub mod InOrder
 pub mod Presence

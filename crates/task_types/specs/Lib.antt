@@ -5,6 +5,7 @@ pub mod Presence
 pub mod Shown
 pub mod Places
 pub mod Formed
+pub mod Deciding
 pub mod Reading
 pub mod Meanings
 pub mod Sound

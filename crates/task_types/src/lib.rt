@@ -6,6 +6,7 @@ mod body;
 mod formed;
 mod inputs;
 mod kinds;
+pub mod laws;
 mod library;
 mod outcome;
 mod payload;

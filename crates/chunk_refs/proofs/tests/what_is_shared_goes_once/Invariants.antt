@@ -1,7 +1,7 @@
 -- One worker, and at most six numbers drawn for each body so far.
 use Rattle.std.proofs.Common.{◌≡◌, ◌≤◌, ◌*◌}
-use Rattle.chunk_refs.specs.Names.{workers_of}
-use Rattle.chunk_refs.specs.Rules.{AreWithin}
+use Rattle.chunk_refs.specs.Room.{workers_of}
+use Rattle.name_states.specs.Rules.{AreWithin}
 use Rattle.chunk_refs.proofs.tests.what_is_shared_goes_once.Given as goal
 
 abbrev pub invariant-loop-height : goal.invariant-loop-height

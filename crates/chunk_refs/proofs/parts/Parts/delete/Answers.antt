@@ -1,5 +1,5 @@
 use Rattle.std.proofs.Common.{sym, subst}
-use Rattle.chunk_refs.specs.Rules.{IsSound}
+use Rattle.name_states.specs.Rules.{IsSound}
 use Rattle.chunk_refs.specs.Inside.{names_of}
 use Rattle.chunk_refs.proofs.Calls.{sound-gone}
 use Rattle.chunk_refs.proofs.parts.Parts.delete.Goals as goal

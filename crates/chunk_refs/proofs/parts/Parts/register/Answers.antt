@@ -1,6 +1,6 @@
 use Rattle.std.proofs.Common.{sym, ap, ◌∙◌, ◌≡◌, arith, subst}
-use Rattle.chunk_refs.specs.Steps.{numbered}
-use Rattle.chunk_refs.specs.Rules.{AreWithin}
+use Rattle.name_states.specs.Steps.{numbered}
+use Rattle.name_states.specs.Rules.{AreWithin}
 use Rattle.chunk_refs.specs.Inside.{names_of, room_of, all_four, refs_of}
 use Rattle.chunk_refs.proofs.Within.{present-padded}
 use Rattle.chunk_refs.proofs.Registering.{own-padded, within-both, live-both, register-names, left-more}

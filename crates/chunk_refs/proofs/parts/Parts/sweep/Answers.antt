@@ -2,7 +2,7 @@ use Rattle.std.proofs.Common.{◌≡◌, None, subst}
 use Rattle.std.proofs.Common.{rules}
 use Rattle.chunk_refs.specs.Inside.{names_of, HasChain}
 use Rattle.chunk_refs.proofs.Ending.{all-named-once}
-use Rattle.chunk_refs.proofs.Reaching.{all-reached}
+use Rattle.name_states.proofs.Reaching.{all-reached}
 use Rattle.chunk_refs.proofs.Sweeping.{partial-step, partial-end}
 use Rattle.chunk_refs.proofs.parts.Parts.sweep.Goals as goal
 

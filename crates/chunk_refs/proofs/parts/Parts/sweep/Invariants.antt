@@ -1,5 +1,5 @@
 -- The deletion so far takes out nothing that is reached, and the chain has what is still to go.
-use Rattle.chunk_refs.specs.Names.{IsAtLeast}
+use Rattle.chunk_refs.specs.Room.{IsAtLeast}
 use Rattle.chunk_refs.specs.Inside.{names_of, room_of, HasChain}
 use Rattle.chunk_refs.specs.Deleting.{IsPartial}
 use Rattle.chunk_refs.proofs.parts.Parts.sweep.Given as goal

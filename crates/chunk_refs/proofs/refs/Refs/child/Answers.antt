@@ -2,7 +2,8 @@ use Rattle.std.proofs.Common.{◌≡◌, ◌<◌, sym, subst, arith}
 use Rattle.std.specs.Option.{ForSome}
 use Rattle.task_types.specs.Tree.{child}
 use Rattle.cht_ids.specs.declared.refs.Ref.TheVariants.{Id as Held}
-use Rattle.chunk_refs.specs.Names.{Contents, content_of}
+use Rattle.chunk_refs.specs.Room.{Contents}
+use Rattle.name_states.specs.States.{content_of}
 use Rattle.chunk_refs.specs.Trees.{tree_of}
 use Rattle.chunk_refs.specs.Inside.{names_of, shown_chunk}
 use Rattle.chunk_refs.proofs.Calls.{child-within, child-tree, few-refs}

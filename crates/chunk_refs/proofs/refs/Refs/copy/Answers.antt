@@ -1,9 +1,10 @@
 use Rattle.std.proofs.Common.{◌≡◌, Some, ap, sym, subst, ◌∙◌}
 use Rattle.cht_ids.specs.declared.refs.Ref.TheVariants.{Id as Held}
-use Rattle.chunk_refs.specs.Names.{Contents, holder_of, body_of}
+use Rattle.chunk_refs.specs.Room.{Contents}
+use Rattle.name_states.specs.States.{holder_of, body_of}
 use Rattle.chunk_refs.specs.Trees.{tree_of}
-use Rattle.chunk_refs.specs.Steps.{copied}
-use Rattle.chunk_refs.specs.Rules.{IsSound, AreWithin}
+use Rattle.name_states.specs.Steps.{copied}
+use Rattle.name_states.specs.Rules.{IsSound, AreWithin}
 use Rattle.chunk_refs.specs.Others.{AreAllAsBefore}
 use Rattle.chunk_refs.specs.Inside.{names_of}
 use Rattle.chunk_refs.proofs.Calls.{copy-sound, copy-tree, copy-held, copy-others, copy-body}

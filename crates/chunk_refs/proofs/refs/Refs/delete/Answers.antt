@@ -1,16 +1,17 @@
-use Rattle.chunk_refs.specs.Steps.{without_id}
-use Rattle.chunk_refs.specs.Reached.{IsReached, swept}
+use Rattle.name_states.specs.Steps.{without_id}
+use Rattle.name_states.specs.Reached.{IsReached, swept}
 use Rattle.std.proofs.Common.{◌≡◌, None, sym, subst, IsSome, ◌↔◌, ◌∙◌, ap}
-use Rattle.chunk_refs.specs.Names.{Contents, naming_at, body_at}
+use Rattle.chunk_refs.specs.Room.{Contents}
+use Rattle.name_states.specs.States.{id_at, body_at}
 use Rattle.chunk_refs.specs.Others.{AreOthersLive, AreRestAsBefore}
-use Rattle.chunk_refs.specs.Rules.{IsSound, AreWithin}
+use Rattle.name_states.specs.Rules.{IsSound, AreWithin}
 use Rattle.chunk_refs.specs.Inside.{names_of}
 use Rattle.chunk_refs.proofs.Calls.{delete-gone, delete-others, delete-rest, delete-within, delete-bodies}
 use Rattle.chunk_refs.proofs.refs.Refs.delete.Goals as goal
 
 pub returns-clause-gone : goal.returns-clause-gone
 returns-clause-gone g c =
-    subst (λ names. naming_at names c.args.id.number ≡ None) (sym c.delete.ensures.names) (delete-gone (names_of c.self.inside.parts) c.args.id.number)
+    subst (λ names. id_at names c.args.id.number ≡ None) (sym c.delete.ensures.names) (delete-gone (names_of c.self.inside.parts) c.args.id.number)
 
 pub returns-clause-others : goal.returns-clause-others
 returns-clause-others g c =

@@ -1,5 +1,6 @@
 use Rattle.std.proofs.Common.{sym, ap, ◌∙◌}
-use Rattle.chunk_refs.specs.Names.{Contents, live_ids}
+use Rattle.chunk_refs.specs.Room.{Contents}
+use Rattle.name_states.specs.States.{live_ids}
 use Rattle.chunk_refs.proofs.Ids.{len-ids_of}
 use Rattle.chunk_refs.proofs.refs.Refs.live_ids.Goals as goal
 

@@ -1,5 +1,5 @@
 use Rattle.std.proofs.Common.{sym, subst}
-use Rattle.chunk_refs.specs.Rules.{IsSound}
+use Rattle.name_states.specs.Rules.{IsSound}
 use Rattle.chunk_refs.proofs.Sound.{sound-none}
 use Rattle.chunk_refs.proofs.Calls.{none-within}
 use Rattle.chunk_refs.proofs.refs.Refs.new.Goals as goal

@@ -1,10 +1,11 @@
 use Rattle.std.proofs.Common.{◌≡◌, ◌+◌, true, false, ap, sym, subst, ◌∙◌, arith, Some}
 use Rattle.cht_ids.specs.declared.refs.Id.{Id}
 use Rattle.cht_ids.specs.declared.refs.Ref.TheVariants.{Id as Held}
-use Rattle.chunk_refs.specs.Names.{Contents, AreLive, spare_of, holder_of, body_of, children_of}
+use Rattle.chunk_refs.specs.Room.{Contents, spare_of}
+use Rattle.name_states.specs.States.{AreLive, holder_of, body_of, children_of}
 use Rattle.chunk_refs.specs.Trees.{tree_of}
-use Rattle.chunk_refs.specs.Steps.{registered, present, numbered}
-use Rattle.chunk_refs.specs.Rules.{IsSound, AreWithin}
+use Rattle.name_states.specs.Steps.{registered, present, numbered}
+use Rattle.name_states.specs.Rules.{IsSound, AreWithin}
 use Rattle.chunk_refs.specs.Others.{AreAllAsBefore}
 use Rattle.chunk_refs.specs.Inside.{names_of, all_four, refs_of}
 use Rattle.chunk_refs.proofs.Calls.{register-others, register-held, register-body, register-children}

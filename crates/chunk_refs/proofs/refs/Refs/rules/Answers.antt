@@ -1,9 +1,9 @@
 use Rattle.std.proofs.Common.{subst}
-use Rattle.chunk_refs.specs.Names.{Contents}
-use Rattle.chunk_refs.specs.Rules.{AreReached, IsSound}
+use Rattle.chunk_refs.specs.Room.{Contents}
+use Rattle.name_states.specs.Rules.{AreReached, IsSound}
 use Rattle.chunk_refs.specs.Inside.{names_of}
 use Rattle.chunk_refs.proofs.Ending.{all-named-once}
-use Rattle.chunk_refs.proofs.Reaching.{all-reached}
+use Rattle.name_states.proofs.Reaching.{all-reached}
 use Rattle.chunk_refs.proofs.Sound.{nothing-left}
 use Rattle.chunk_refs.proofs.Calls.{none-left, none-counted}
 use Rattle.chunk_refs.proofs.refs.Refs.rules.Goals as goal

@@ -101,3 +101,6 @@ module _ {X : Type 0} where
         | inl same ↦ absurd (none_not_some (removed_here m key q same) is)
         | inr apart ↦ (apart, sym (removed_other m key q apart) ∙ is)
       ]
+
+  pub get_retained : (m : map.FinMap nat_cmp X) (p : ℕ → Bool) (q : ℕ) → map.get (map.retain_keys m p) q ≡ cond (p q) (map.get m q) None
+  get_retained m p q = map.get-retain_keys m p q (λ x tied. ap p (sym (map.nat_cmp-IsAntisymmetric q x tied)))

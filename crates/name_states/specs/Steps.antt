@@ -3,9 +3,9 @@ use Rattle.std.specs.Prelude.{ℕ, ◌+◌, List, [], ◌∷◌, Option, None, S
 use Rattle.std.specs.FinMap as map
 use Rattle.cht_ids.specs.declared.refs.Ref.{Ref}
 use Rattle.cht_ids.specs.declared.refs.Ref.TheVariants.{Null, Id as Held}
-use Rattle.chunk_refs.specs.declared.holder.Holder.{Holder}
-use Rattle.chunk_refs.specs.declared.holder.Holder.TheVariants.{Caller, Task, Body}
-use Rattle.chunk_refs.specs.Names.{Names, Naming, Registered, naming_at}
+use Rattle.name_states.specs.declared.holder.Holder.{Holder}
+use Rattle.name_states.specs.declared.holder.Holder.TheVariants.{Caller, Task, Body}
+use Rattle.name_states.specs.States.{NameState, IdRecord, BodyRecord, id_at}
 
 -- a caller or a task
 abbrev pub IsOutside : Holder → Type 0
@@ -36,35 +36,35 @@ numbered drawn (r ∷ refs) = numbered_ref drawn r ∷ numbered (drawn + drawn_b
 
 module _ {C : Type 0} where
   -- one more identifier
-  abbrev pub with_id : Names C → ℕ → Naming → Names C
-  with_id names number naming = record names { ids = map.insert names.ids number naming }
+  abbrev pub with_id : NameState C → ℕ → IdRecord → NameState C
+  with_id names number entry = record names { ids = map.insert names.ids number entry }
 
   -- one more body
-  abbrev pub with_body : Names C → ℕ → Registered C → Names C
+  abbrev pub with_body : NameState C → ℕ → BodyRecord C → NameState C
   with_body names number body = record names { bodies = map.insert names.bodies number body }
 
-  -- one more identifier for what a naming names
-  abbrev pub with_naming : Names C → ℕ → Holder → Option Naming → Names C
+  -- one more identifier for what another one names
+  abbrev pub with_naming : NameState C → ℕ → Holder → Option IdRecord → NameState C
   with_naming names number holder None = names
-  with_naming names number holder (Some naming) = with_id names number (record naming { holder = holder })
+  with_naming names number holder (Some entry) = with_id names number (record entry { holder = holder })
 
   -- one more identifier of the body that a live identifier names, with a number and a holder of its own
-  abbrev pub copied : Names C → ℕ → ℕ → Holder → Names C
-  copied names from number holder = with_naming names number holder (naming_at names from)
+  abbrev pub copied : NameState C → ℕ → ℕ → Holder → NameState C
+  copied names from number holder = with_naming names number holder (id_at names from)
 
   -- one more identifier, with the next number, for a child that is not null
-  abbrev pub linked_ref : Names C → ℕ → Holder → Ref → Names C
+  abbrev pub linked_ref : NameState C → ℕ → Holder → Ref → NameState C
   linked_ref names drawn holder Null = names
   linked_ref names drawn holder (Held id) = copied names id.number (drawn + 1) holder
 
   -- the same for all children in order
-  abbrev pub linked : Names C → ℕ → Holder → List Ref → Names C
+  abbrev pub linked : NameState C → ℕ → Holder → List Ref → NameState C
   linked names drawn holder [] = names
   linked names drawn holder (r ∷ refs) = linked (linked_ref names drawn holder r) (drawn + drawn_by r) holder refs
 
   -- A registered body, after so many numbers that were drawn before: the body has the next number, its identifier the
   -- one after, and then come the identifiers that the body holds of its children.
-  abbrev pub registered : Names C → ℕ → Holder → ℕ → C → List Ref → Names C
+  abbrev pub registered : NameState C → ℕ → Holder → ℕ → C → List Ref → NameState C
   registered names drawn holder worker content refs =
       linked (with_id (with_body names (drawn + 1) (record {
         owner = worker;
@@ -73,9 +73,9 @@ module _ {C : Type 0} where
       })) (drawn + 2) (record { owner = worker; body = drawn + 1; holder = holder })) (drawn + 2) (Body (drawn + 1)) refs
 
   -- all but the identifier with a number
-  abbrev pub without_id : Names C → ℕ → Names C
+  abbrev pub without_id : NameState C → ℕ → NameState C
   without_id names number = record names { ids = map.remove names.ids number }
 
   -- all but the body with a number
-  abbrev pub without_body : Names C → ℕ → Names C
+  abbrev pub without_body : NameState C → ℕ → NameState C
   without_body names number = record names { bodies = map.remove names.bodies number }

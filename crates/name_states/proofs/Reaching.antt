@@ -4,16 +4,16 @@ use Rattle.std.specs.List.{list_any, fold}
 use Rattle.std.specs.Ordering.{nat_cmp, eq_by_cmp}
 use Rattle.std.specs.Cmp.{unsigned_tied}
 use Rattle.std.specs.FinMap as map
-use Rattle.chunk_refs.specs.declared.holder.Holder.{Holder}
-use Rattle.chunk_refs.specs.declared.holder.Holder.TheVariants.{Caller, Task, Body}
-use Rattle.chunk_refs.specs.Names.{Names, Naming, naming_at, body_at}
-use Rattle.chunk_refs.specs.Steps.{IsOutside}
-use Rattle.chunk_refs.specs.Reached.{IsReached, Outside, Inside, keeps_up, leads_up, is_reached_within, greatest_body, is_reached}
-use Rattle.chunk_refs.specs.Rules.{IsSound, AreReached}
-use Rattle.chunk_refs.specs.Deleting.{IsHeldUp}
-use Rattle.chunk_refs.proofs.Basics.{same_some, same_from_test, test_same, one_of}
+use Rattle.name_states.specs.declared.holder.Holder.{Holder}
+use Rattle.name_states.specs.declared.holder.Holder.TheVariants.{Caller, Task, Body}
+use Rattle.name_states.specs.States.{NameState, IdRecord, id_at, body_at}
+use Rattle.name_states.specs.Steps.{IsOutside}
+use Rattle.name_states.specs.Reached.{IsReached, Outside, Inside, keeps_up, leads_up, is_reached_within, greatest_body, is_reached}
+use Rattle.name_states.specs.Rules.{IsSound, AreReached}
+use Rattle.name_states.specs.Reached.{IsHeldUp}
+use Rattle.name_states.proofs.Basics.{same_some, same_from_test, test_same, one_of}
 
-up_from_outside : {C : Type 0} (names : Names C) (holder : Holder) → IsOutside holder → IsHeldUp names holder
+pub up_from_outside : {C : Type 0} (names : NameState C) (holder : Holder) → IsOutside holder → IsHeldUp names holder
 up_from_outside names (Caller caller) outside = tt
 up_from_outside names (Task task) outside = tt
 up_from_outside names (Body body) outside = absurd outside
@@ -63,13 +63,13 @@ outside-passes passes (Caller caller) outside = refl
 outside-passes passes (Task task) outside = refl
 outside-passes passes (Body body) outside = absurd outside
 
-leads-naming : (passes : ℕ → Bool) (body : ℕ) (found : Option Naming) → leads_up passes body found ≡ true → (naming : Naming) × (found ≡ Some naming) × (naming.body ≡ body) × (keeps_up passes naming.holder ≡ true)
+leads-naming : (passes : ℕ → Bool) (body : ℕ) (found : Option IdRecord) → leads_up passes body found ≡ true → (naming : IdRecord) × (found ≡ Some naming) × (naming.body ≡ body) × (keeps_up passes naming.holder ≡ true)
 leads-naming passes body None is = absurd (cc)
 leads-naming passes body (Some naming) is =
     let both = both_tests (naming.body == body) (keeps_up passes naming.holder) is in
     (naming, refl, same_from_test naming.body body both.0, both.1)
 
-leads-here : (passes : ℕ → Bool) (found : Option Naming) (naming : Naming) → found ≡ Some naming → keeps_up passes naming.holder ≡ true → leads_up passes naming.body found ≡ true
+leads-here : (passes : ℕ → Bool) (found : Option IdRecord) (naming : IdRecord) → found ≡ Some naming → keeps_up passes naming.holder ≡ true → leads_up passes naming.body found ≡ true
 leads-here passes found naming is up = ap (leads_up passes naming.body) is ∙ and_true (naming.body == naming.body) (keeps_up passes naming.holder) (test_same naming.body) up
 
 up-to-test : (passes : ℕ → Bool) (holder : Holder) → ((body : ℕ) → holder ≡ Body body → passes body ≡ true) → keeps_up passes holder ≡ true
@@ -85,12 +85,12 @@ holder-kinds (Body body) = inr (body, refl)
 
 module _ {C : Type 0} where
   -- how a body is reached
-  pub reached-by : (names : Names C) (body : ℕ) → IsReached names body → (number : ℕ) × (naming : Naming) × (naming_at names number ≡ Some naming) × (naming.body ≡ body) × IsHeldUp names naming.holder
+  pub reached-by : (names : NameState C) (body : ℕ) → IsReached names body → (number : ℕ) × (naming : IdRecord) × (id_at names number ≡ Some naming) × (naming.body ≡ body) × IsHeldUp names naming.holder
   reached-by names body (Outside number naming is outside) = (number, naming, is, refl, up_from_outside names naming.holder outside)
   reached-by names body (Inside number naming holder is held reached) = (number, naming, is, refl, subst (IsHeldUp names) (sym held) reached)
 
   -- an identifier that is held up reaches its body
-  pub reached-from : (names : Names C) (number : ℕ) (naming : Naming) → naming_at names number ≡ Some naming → IsHeldUp names naming.holder → IsReached names naming.body
+  pub reached-from : (names : NameState C) (number : ℕ) (naming : IdRecord) → id_at names number ≡ Some naming → IsHeldUp names naming.holder → IsReached names naming.body
   reached-from names number naming is up =
       elim naming.holder as (λ holder. naming.holder ≡ holder → IsHeldUp names holder → IsReached names naming.body) [
         | Caller caller ↦ λ held reached. Outside number naming is (subst IsOutside (sym held) tt)
@@ -99,68 +99,79 @@ module _ {C : Type 0} where
       ] refl up
 
   -- fewer names reach fewer bodies
-  pub reached-more : (fewer more : Names C) (body : ℕ) → ((number : ℕ) (naming : Naming) → naming_at fewer number ≡ Some naming → naming_at more number ≡ Some naming) → IsReached fewer body → IsReached more body
+  pub reached-more : (fewer more : NameState C) (body : ℕ) → ((number : ℕ) (naming : IdRecord) → id_at fewer number ≡ Some naming → id_at more number ≡ Some naming) → IsReached fewer body → IsReached more body
   reached-more fewer more body stays (Outside number naming is outside) = Outside number naming (stays number naming is) outside
   reached-more fewer more body stays (Inside number naming holder is held reached) = Inside number naming holder (stays number naming is) held (reached-more fewer more holder stays reached)
 
-  up-more : (fewer more : Names C) (holder : Holder) → ((number : ℕ) (naming : Naming) → naming_at fewer number ≡ Some naming → naming_at more number ≡ Some naming) → IsHeldUp fewer holder → IsHeldUp more holder
+  pub up-more : (fewer more : NameState C) (holder : Holder) → ((number : ℕ) (naming : IdRecord) → id_at fewer number ≡ Some naming → id_at more number ≡ Some naming) → IsHeldUp fewer holder → IsHeldUp more holder
   up-more fewer more (Caller caller) stays up = tt
   up-more fewer more (Task task) stays up = tt
   up-more fewer more (Body body) stays up = reached-more fewer more body stays up
 
-  pub body-within : (names : Names C) (number : ℕ) → IsSome (body_at names number) → number ≤ greatest_body names
+  pub body-within : (names : NameState C) (number : ℕ) → IsSome (body_at names number) → number ≤ greatest_body names
   body-within names number some = (◌≤greatest (map.keys names.bodies) number 0).1 (sym (map.contains_key-keys names.bodies number) ∙ some)
 
-  up-from-test : (names : Names C) (passes : ℕ → Bool) (holder : Holder) → ((body : ℕ) → passes body ≡ true → IsReached names body) → keeps_up passes holder ≡ true → IsHeldUp names holder
+  up-from-test : (names : NameState C) (passes : ℕ → Bool) (holder : Holder) → ((body : ℕ) → passes body ≡ true → IsReached names body) → keeps_up passes holder ≡ true → IsHeldUp names holder
   up-from-test names passes (Caller caller) sound is = tt
   up-from-test names passes (Task task) sound is = tt
   up-from-test names passes (Body body) sound is = sound body is
 
-  reached-within : (depth : ℕ) (names : Names C) (body : ℕ) → is_reached_within depth names body ≡ true → IsReached names body
+  reached-within : (depth : ℕ) (names : NameState C) (body : ℕ) → is_reached_within depth names body ≡ true → IsReached names body
   reached-within zero names body is = absurd (cc)
   reached-within (suc depth) names body is =
-      let key = any_passes (λ number. leads_up (is_reached_within depth names) body (naming_at names number)) (map.keys names.ids) is in
-      let found = leads-naming (is_reached_within depth names) body (naming_at names key.0) key.1 in
+      let key = any_passes (λ number. leads_up (is_reached_within depth names) body (id_at names number)) (map.keys names.ids) is in
+      let found = leads-naming (is_reached_within depth names) body (id_at names key.0) key.1 in
       subst (IsReached names) found.2 (reached-from names key.0 found.0 found.1 (up-from-test names (is_reached_within depth names) found.0.holder (reached-within depth names) found.3))
 
   -- what the test finds is reached
-  pub reached-from-test : (names : Names C) (body : ℕ) → is_reached names body ≡ true → IsReached names body
+  pub reached-from-test : (names : NameState C) (body : ℕ) → is_reached names body ≡ true → IsReached names body
   reached-from-test names body is = reached-within (suc (greatest_body names)) names body is
 
-  step-within : (depth : ℕ) (names : Names C) (number : ℕ) (naming : Naming) → naming_at names number ≡ Some naming → keeps_up (is_reached_within depth names) naming.holder ≡ true
+  step-within : (depth : ℕ) (names : NameState C) (number : ℕ) (naming : IdRecord) → id_at names number ≡ Some naming → keeps_up (is_reached_within depth names) naming.holder ≡ true
       → is_reached_within (suc depth) names naming.body ≡ true
   step-within depth names number naming is up =
-      any_from (λ n. leads_up (is_reached_within depth names) naming.body (naming_at names n)) (map.keys names.ids) number
-      (sym (map.contains_key-keys names.ids number) ∙ ap is_some is) (leads-here (is_reached_within depth names) (naming_at names number) naming is up)
+      any_from (λ n. leads_up (is_reached_within depth names) naming.body (id_at names n)) (map.keys names.ids) number
+      (sym (map.contains_key-keys names.ids number) ∙ ap is_some is) (leads-here (is_reached_within depth names) (id_at names number) naming is up)
+
+  -- Each identifier names a body that is there, and one that a body holds names a body with a lower number.
+  pub record LeadsDown (names : NameState C) : Type 0 where
+    pub there : (number : ℕ) (naming : IdRecord) → id_at names number ≡ Some naming → IsSome (body_at names naming.body)
+    pub below : (number : ℕ) (naming : IdRecord) (holder : ℕ) → id_at names number ≡ Some naming → naming.holder ≡ Body holder → naming.body < holder
 
   -- an identifier that a body holds names a body with a lower number
-  pub held-below : (arity : C → ℕ) (names : Names C) (number : ℕ) (naming : Naming) (holder : ℕ) → IsSound arity names → naming_at names number ≡ Some naming → naming.holder ≡ Body holder → naming.body < holder
+  pub held-below : (arity : C → ℕ) (names : NameState C) (number : ℕ) (naming : IdRecord) (holder : ℕ) → IsSound arity names → id_at names number ≡ Some naming → naming.holder ≡ Body holder → naming.body < holder
   held-below arity names number naming holder sound is held =
       let child = sound.held number naming holder is held in
       let by = sound.children holder child.0 child.1 (record { owner = naming.owner; number = number }) child.2 child.3 in
-      subst (λ (n : Naming). n.body < holder) (same_some by.0 naming (sym by.1 ∙ is)) by.4
+      subst (λ (n : IdRecord). n.body < holder) (same_some by.0 naming (sym by.1 ∙ is)) by.4
 
-  -- a body that a live identifier names is there
-  named-there : (arity : C → ℕ) (names : Names C) (number : ℕ) (naming : Naming) → IsSound arity names → naming_at names number ≡ Some naming → IsSome (body_at names naming.body)
-  named-there arity names number naming sound is = ap is_some (sound.named number naming is).1
+  -- so it is where the rules hold
+  pub sound-down : (arity : C → ℕ) (names : NameState C) → IsSound arity names → LeadsDown names
+  sound-down arity names sound = record {
+    there = λ number naming is. ap is_some (sound.named number naming is).1;
+    below = λ number naming holder is held. held-below arity names number naming holder sound is held;
+  }
 
-  within-reached : (arity : C → ℕ) (names : Names C) (body : ℕ) → IsSound arity names → IsReached names body → (depth : ℕ) → greatest_body names < body + depth → is_reached_within depth names body ≡ true
-  within-reached arity names body sound (Outside number naming is outside) zero deep =
-      absurd (omega (arith, deep, body-within names naming.body (named-there arity names number naming sound is)))
-  within-reached arity names body sound (Outside number naming is outside) (suc depth) deep =
+  within-reached : (names : NameState C) (body : ℕ) → LeadsDown names → IsReached names body → (depth : ℕ) → greatest_body names < body + depth → is_reached_within depth names body ≡ true
+  within-reached names body down (Outside number naming is outside) zero deep =
+      absurd (omega (arith, deep, body-within names naming.body (down.there number naming is)))
+  within-reached names body down (Outside number naming is outside) (suc depth) deep =
       step-within depth names number naming is (outside-passes (is_reached_within depth names) naming.holder outside)
-  within-reached arity names body sound (Inside number naming holder is held reached) zero deep =
-      absurd (omega (arith, deep, body-within names naming.body (named-there arity names number naming sound is)))
-  within-reached arity names body sound (Inside number naming holder is held reached) (suc depth) deep =
+  within-reached names body down (Inside number naming holder is held reached) zero deep =
+      absurd (omega (arith, deep, body-within names naming.body (down.there number naming is)))
+  within-reached names body down (Inside number naming holder is held reached) (suc depth) deep =
       step-within depth names number naming is
-      (ap (keeps_up (is_reached_within depth names)) held ∙ within-reached arity names holder sound reached depth (omega (arith, deep, held-below arity names number naming holder sound is held)))
+      (ap (keeps_up (is_reached_within depth names)) held ∙ within-reached names holder down reached depth (omega (arith, deep, down.below number naming holder is held)))
 
   -- and the test finds all that is reached
-  pub reached-to-test : (arity : C → ℕ) (names : Names C) (body : ℕ) → IsSound arity names → IsReached names body → is_reached names body ≡ true
-  reached-to-test arity names body sound reached = within-reached arity names body sound reached (suc (greatest_body names)) (omega arith)
+  pub reached-finds : (names : NameState C) (body : ℕ) → LeadsDown names → IsReached names body → is_reached names body ≡ true
+  reached-finds names body down reached = within-reached names body down reached (suc (greatest_body names)) (omega arith)
 
-  reach : (arity : C → ℕ) (names : Names C) → IsSound arity names
-      → ((number : ℕ) → IsSome (body_at names number) → (id : ℕ) × (naming : Naming) × (naming_at names id ≡ Some naming) × (naming.body ≡ number))
+  pub reached-to-test : (arity : C → ℕ) (names : NameState C) (body : ℕ) → IsSound arity names → IsReached names body → is_reached names body ≡ true
+  reached-to-test arity names body sound reached = reached-finds names body (sound-down arity names sound) reached
+
+  reach : (arity : C → ℕ) (names : NameState C) → IsSound arity names
+      → ((number : ℕ) → IsSome (body_at names number) → (id : ℕ) × (naming : IdRecord) × (id_at names id ≡ Some naming) × (naming.body ≡ number))
       → (depth number : ℕ) → greatest_body names < number + depth → IsSome (body_at names number) → IsReached names number
   reach arity names sound named zero number deep there = absurd (omega (arith, deep, body-within names number there))
   reach arity names sound named (suc depth) number deep there =
@@ -173,7 +184,7 @@ module _ {C : Type 0} where
       ])
 
   -- where each body has an identifier, each is reached: by induction from the greatest number down
-  pub all-reached : (arity : C → ℕ) (names : Names C) → IsSound arity names
-      → ((number : ℕ) → IsSome (body_at names number) → (id : ℕ) × (naming : Naming) × (naming_at names id ≡ Some naming) × (naming.body ≡ number))
+  pub all-reached : (arity : C → ℕ) (names : NameState C) → IsSound arity names
+      → ((number : ℕ) → IsSome (body_at names number) → (id : ℕ) × (naming : IdRecord) × (id_at names id ≡ Some naming) × (naming.body ≡ number))
       → AreReached names
   all-reached arity names sound named number there = reach arity names sound named (suc (greatest_body names)) number (omega arith) there
