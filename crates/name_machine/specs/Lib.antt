@@ -7,3 +7,4 @@ pub mod Control
 pub mod Replay
 pub mod Facts
 pub mod Parts
+pub mod Laws
