@@ -1,8 +1,8 @@
 -- The control state: the machine with references in place of trees. Bodies are known by number, with an owner, what is kept of
 -- the content (the content itself, or no more than how many children it has) and a reference for each child; identifiers with a
 -- body and a holder.
-use Rattle.std.specs.Prelude.{ℕ, zero, suc, ◌+◌, ◌==◌, ◌&&◌, ◌||◌, not, Bool, true, false, if◌then◌else◌, List, [], ◌∷◌, ◌++◌, map as each, Option, None, Some}
-use Rattle.std.specs.Option.{option_map, is_some}
+use Rattle.std.specs.Prelude.{ℕ, zero, suc, ◌+◌, ◌==◌, ◌&&◌, not, Bool, false, if◌then◌else◌, List, [], ◌∷◌, ◌++◌, map as each, Option, None, Some}
+use Rattle.std.specs.Option.{is_some}
 use Rattle.std.specs.List.{list_any, flat_map}
 use Rattle.std.specs.Ordering.{nat_cmp}
 use Rattle.std.specs.FinMap as map
@@ -143,7 +143,7 @@ module _ {B : Type 0} where
       let refs : List Ref = each (ref_named grown.names inputs grown.chunks) places in
       record {
         names = names.registered grown.names grown.drawn (ByTask task) worker content refs;
-        drawn = grown.drawn + 2 + present refs;
+        drawn = grown.drawn + 2 + taken places;
         chunks = grown.chunks ++ Held (record { owner = worker; number = grown.drawn + 2 }) ∷ [];
       }
 
@@ -268,18 +268,25 @@ module _ {B G K : Type 0} where
   with_chunks control worker task inputs contents chunks =
       chunks_more worker task inputs contents chunks (record { names = control.names; drawn = control.drawn; chunks = [] })
 
+  -- new tasks of a caller are there and hold their inputs, on top of new chunks
+  abbrev pub with_new_tasks : Control B G K → ℕ → List Ref → List (NewTask K) → Grown B → Control B G K
+  with_new_tasks control caller inputs tasks grown =
+      let read : Place → Ref = ref_named grown.names inputs grown.chunks in
+      record control {
+        drawn = grown.drawn + drawn_by_tasks tasks;
+        names = task_copies read grown.drawn tasks grown.names;
+        graph = with_tasks (λ place number. with_number (read place) number) (task_numbers grown.drawn tasks) caller grown.drawn tasks control.graph;
+      }
+
+  -- a task goes with the identifiers that it holds
+  abbrev pub without_task : Control B G K → ℕ → Control B G K
+  without_task control task =
+      record control { names = without_ids control.names (is_held_by task); graph = removed control.graph task }
+
   -- The outcome of a task takes effect: its chunks are registered on the worker that ran it, its new tasks are there and hold their
   -- inputs, what awaited it is settled or handed on, and it goes with the identifiers that it holds.
   abbrev pub finish_event : Control B G K → ℕ → ℕ → Unfinished Ref K → List B → List Places → List (NewTask K) → Place → Control B G K
   finish_event control worker task unfinished contents chunks tasks result =
       let inputs : List Ref = each ref_known unfinished.inputs in
       let grown : Grown B = with_chunks control worker task inputs contents chunks in
-      let read : Place → Ref = ref_named grown.names inputs grown.chunks in
-      let numbers : List ℕ = task_numbers grown.drawn tasks in
-      let added : Control B G K = record control {
-        drawn = grown.drawn + drawn_by_tasks tasks;
-        names = task_copies read grown.drawn tasks grown.names;
-        graph = with_tasks (λ place number. with_number (read place) number) numbers unfinished.caller grown.drawn tasks control.graph;
-      } in
-      let ended : Control B G K = resolved_to added task numbers read result in
-      record ended { names = without_ids ended.names (is_held_by task); graph = removed ended.graph task }
+      without_task (resolved_to (with_new_tasks control unfinished.caller inputs tasks grown) task (task_numbers grown.drawn tasks) (ref_named grown.names inputs grown.chunks) result) task

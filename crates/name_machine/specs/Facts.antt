@@ -1,9 +1,9 @@
 -- What holds in every state that is reached.
-use Rattle.std.specs.Prelude.{◌≡◌, ℕ, ◌<◌, ◌≤◌, true, Option, None, Some, slice_get}
+use Rattle.std.specs.Prelude.{◌≡◌, ℕ, ◌<◌, true, None, Some}
 use Rattle.std.specs.FinMap as map
 use Rattle.task_types.specs.Tree.{Tree}
 use Rattle.task_types.specs.Meanings.{Meanings}
-use Rattle.task_states.specs.States.{Input, Awaits, Unfinished, Graph, task_at, input_at, is_stopped}
+use Rattle.task_states.specs.States.{Awaits, Unfinished, Graph, task_at, input_at, is_stopped}
 use Rattle.name_machine.specs.States.{Machine, Ask, has_ask}
 use Rattle.name_machine.specs.Goals.{AreDefined, AreServed}
 

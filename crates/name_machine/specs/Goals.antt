@@ -1,11 +1,9 @@
 -- The goals of unfinished tasks, where awaited inputs are read as the goals of their tasks, and what holds in every state.
-use Rattle.std.specs.Prelude.{◌≡◌, ◌⊎◌, ℕ, zero, suc, ◌+◌, ◌<◌, ◌≤◌, Bool, true, false, List, [], ◌∷◌, map as each, sum, Option, None, Some, slice_get}
+use Rattle.std.specs.Prelude.{◌≡◌, ◌⊎◌, ℕ, zero, suc, List, map as each, Option, None, Some}
 use Rattle.std.specs.FinMap as map
-use Rattle.std.specs.Ordering.{nat_cmp}
 use Rattle.task_types.specs.Tree.{Tree, Nothing}
 use Rattle.task_types.specs.Meanings.{Meanings}
-use Rattle.task_states.specs.declared.states.TaskStatus.TheVariants.{Waiting}
-use Rattle.task_states.specs.States.{Input, Known, Awaits, Unfinished, Graph, task_at, status_of, is_stopped}
+use Rattle.task_states.specs.States.{Input, Known, Awaits, Unfinished, Graph, task_at}
 use Rattle.name_machine.specs.States.{Machine, Ask}
 
 module _ {C K : Type 0} (lib : Meanings C K) where

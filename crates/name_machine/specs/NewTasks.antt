@@ -1,6 +1,6 @@
 -- The numbers that a finished task draws for what it registers, and its new tasks. What a known input is stays open: a tree, or a
 -- reference.
-use Rattle.std.specs.Prelude.{ℕ, zero, suc, ◌+◌, List, [], ◌∷◌, ◌++◌}
+use Rattle.std.specs.Prelude.{ℕ, zero, suc, ◌+◌, List, [], ◌∷◌}
 use Rattle.task_types.specs.declared.outcome.Place.{Place}
 use Rattle.task_types.specs.declared.outcome.Place.TheVariants.{Null, Input as AtInput, Child, Chunk, Task}
 use Rattle.task_types.specs.declared.outcome.Places.{Places}

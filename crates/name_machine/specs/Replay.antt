@@ -1,6 +1,6 @@
 -- Replay: the control state after a list of events, or a failure. It knows of a library no more than its plans and its kinds' names.
-use Rattle.std.specs.Prelude.{ℕ, zero, suc, ◌+◌, ◌==◌, ◌&&◌, ◌||◌, not, nat_le, Bool, true, false, if◌then◌else◌, List, [], ◌∷◌, length, map as each, Option, None, Some}
-use Rattle.std.specs.Option.{option_and_then, option_map, is_none, is_some}
+use Rattle.std.specs.Prelude.{ℕ, ◌+◌, ◌==◌, ◌&&◌, not, nat_le, Bool, true, false, if◌then◌else◌, List, [], ◌∷◌, length, map as each, Option, None, Some}
+use Rattle.std.specs.Option.{option_and_then}
 use Rattle.std.specs.List.{list_all, list_any}
 use Rattle.std.specs.FinMap as map
 use Rattle.cht_ids.specs.declared.refs.Id.{Id}
@@ -17,7 +17,7 @@ use Rattle.name_states.specs.declared.holder.Holder.TheVariants.{Caller as ByCal
 use Rattle.name_states.specs.States.{NameState, IdRecord, record_of, children_of}
 use Rattle.task_states.specs.declared.states.TaskStatus.{TaskStatus}
 use Rattle.task_states.specs.declared.states.TaskStatus.TheVariants.{Unknown, Waiting, Ready, Running}
-use Rattle.task_states.specs.States.{Unfinished, Graph, task_at, status, is_stopped, running}
+use Rattle.task_states.specs.States.{Unfinished, task_at, status, is_stopped, running}
 use Rattle.cht_history.specs.declared.event.Event.{Event}
 use Rattle.cht_history.specs.declared.event.Event.TheVariants.{Register, Copy, Delete, Ask as AskEvent, Collect, Abandon, Stop, Start, GiveBack, Finish}
 use Rattle.name_machine.specs.States.{Ask, has_ask}

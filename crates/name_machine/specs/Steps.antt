@@ -1,5 +1,5 @@
 -- What each step of the machine makes of its state. The owner of a new identifier is left open.
-use Rattle.std.specs.Prelude.{ℕ, ◌+◌, ◌==◌, not, Bool, if◌then◌else◌, List, [], ◌∷◌, map as each, Option, None, Some}
+use Rattle.std.specs.Prelude.{ℕ, ◌+◌, ◌==◌, not, if◌then◌else◌, List, [], map as each, Option, None, Some}
 use Rattle.std.specs.FinMap as map
 use Rattle.cht_ids.specs.declared.refs.Ref.{Ref}
 use Rattle.task_types.specs.declared.outcome.Place.{Place}
@@ -11,9 +11,9 @@ use Rattle.task_types.specs.Meanings.{Meanings}
 use Rattle.task_types.specs.Reading.{reading, new_trees}
 use Rattle.name_states.specs.Steps.{present}
 use Rattle.task_states.specs.Maps.{each_changed, kept}
-use Rattle.task_states.specs.States.{Input, Known, Awaits, Unfinished, Graph, task_at, asked_of}
+use Rattle.task_states.specs.States.{Input, Known, Awaits, Unfinished, asked_of}
 use Rattle.task_states.specs.Steps.{added, with_asked, started, given_back, all_delivered, forwarded, removed, with_stopped, abandoned}
-use Rattle.name_machine.specs.States.{Machine, Holding, Ask, tree_named, is_of}
+use Rattle.name_machine.specs.States.{Machine, Ask, tree_named, is_of}
 use Rattle.name_machine.specs.NewTasks.{drawn_by_chunks, drawn_by_tasks, task_numbers, number_at, with_tasks}
 
 module _ {C K : Type 0} where

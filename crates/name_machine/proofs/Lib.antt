@@ -1,0 +1,4 @@
+pub mod Values
+pub mod Tasks
+pub mod Once
+pub mod Refusing
