@@ -6,12 +6,13 @@ use Rattle.task_types.specs.Meanings.{Meanings}
 use Rattle.task_states.specs.States.{Input, Known, Awaits, Unfinished, Graph, task_at}
 use Rattle.name_machine.specs.States.{Machine, Ask}
 
-module _ {C K : Type 0} (lib : Meanings C K) where
+module _ {C : Type 0} where
   -- what an input reads as, where the tasks have these goals
   abbrev pub read_input : (ℕ → Tree C) → Input (Tree C) → Tree C
   read_input goals (Known tree) = tree
   read_input goals (Awaits task number) = goals task
 
+module _ {C K : Type 0} (lib : Meanings C K) where
   -- the goal of a task, where the tasks that it awaits have these goals; nothing where there is no such task
   abbrev pub goal_from : (ℕ → Tree C) → Option (Unfinished (Tree C) K) → Tree C
   goal_from goals None = Nothing

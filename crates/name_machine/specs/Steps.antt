@@ -52,7 +52,7 @@ module _ {C K : Type 0} where
           goal = lib.goal kind (each (tree_named machine) inputs);
           delivered = None;
         });
-        graph = with_asked (added machine.graph (machine.drawn + 1) caller kind (each (λ r. Known (tree_named machine r)) inputs)) (machine.drawn + 1) (machine.drawn + 2 + present inputs);
+        graph = with_asked (added machine.graph (machine.drawn + 1) caller kind (each Known (each (tree_named machine) inputs))) (machine.drawn + 1) (machine.drawn + 2 + present inputs);
       }
 
   -- a caller that has no ask of a task any more gets the output, if it is not null

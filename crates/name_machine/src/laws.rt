@@ -2,7 +2,9 @@
 //! `specs/Laws.antt` states.
 
 ghost use Rattle.name_machine.specs.Replay.{Plans};
-ghost use Rattle.name_machine.specs.Laws.{FinishedOnce, RefusesStrange, DeadIsStrange, OthersAreStrange, UncollectedIsStrange, RefusesOutOfTurn, RefusesNotReady, RefusesSecondStart, RefusesUnplanned};
+ghost use Rattle.name_machine.specs.Laws.{FactsHold, FinishedOnce, RefusesStrange, DeadIsStrange, OthersAreStrange, UncollectedIsStrange, RefusesOutOfTurn, RefusesNotReady, RefusesSecondStart, RefusesUnplanned};
+
+use task_types::Library;
 
 /// In a list of events that can be replayed no task is finished twice, whatever the plans are.
 pub fn finished_once<K>()
@@ -22,4 +24,9 @@ pub fn refusals<K>()
     ensures not_ready { (plans : Plans K) → RefusesNotReady plans }
     ensures second_start { (plans : Plans K) → RefusesSecondStart plans }
     ensures unplanned { (plans : Plans K) → RefusesUnplanned plans }
+{}
+
+/// In every state that a legal run of a library reaches the facts hold.
+pub fn facts_hold<L: Library>()
+    ensures { FactsHold L.meanings L.Chunk.arity }
 {}

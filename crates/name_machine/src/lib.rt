@@ -3,4 +3,4 @@
 
 mod laws;
 
-pub use laws::{finished_once, refusals};
+pub use laws::{facts_hold, finished_once, refusals};
