@@ -1,0 +1,13 @@
+pub mod Values
+pub mod Tasks
+pub mod Once
+pub mod Refusing
+pub mod Invariant
+pub mod Ends
+pub mod Asking
+pub mod Small
+pub mod Added
+pub mod Stands
+pub mod Answered
+pub mod Finishing
+pub mod Runs

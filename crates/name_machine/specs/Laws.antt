@@ -1,0 +1,121 @@
+-- The laws of the machine and of replay, as statements. The functions of `laws` carry each as their contract.
+use Rattle.std.specs.Prelude.{◌≡◌, ℕ, ◌+◌, ◌≤◌, ◌==◌, Bool, true, false, List, slice_get, count_by, None, Some}
+use Rattle.std.specs.Option.{is_some}
+use Rattle.std.specs.FinMap as map
+use Rattle.cht_ids.specs.declared.refs.Id.{Id}
+use Rattle.cht_ids.specs.declared.refs.Ref.{Ref}
+use Rattle.cht_ids.specs.declared.refs.Ref.TheVariants.{Id as Held}
+use Rattle.task_types.specs.declared.outcome.Place.{Place}
+use Rattle.task_types.specs.declared.outcome.Places.{Places}
+use Rattle.task_types.specs.declared.outcome.NewTask.{NewTask}
+use Rattle.name_states.specs.declared.holder.Holder.TheVariants.{Caller as ByCaller}
+use Rattle.name_states.specs.States.{IdRecord, record_of}
+use Rattle.task_states.specs.declared.states.TaskStatus.TheVariants.{Ready}
+use Rattle.task_states.specs.States.{Unfinished, task_at, status}
+use Rattle.task_types.specs.Meanings.{Meanings}
+use Rattle.cht_history.specs.declared.event.Event.{Event}
+use Rattle.cht_history.specs.declared.event.Event.TheVariants.{Register, Copy, Delete, Ask, Collect, Abandon, Stop, Start, GiveBack, Finish}
+use Rattle.name_machine.specs.States.{Machine, Ask as AskOf}
+use Rattle.name_machine.specs.Machine.{IsLegalRun}
+use Rattle.name_machine.specs.Facts.{HoldsTogether}
+use Rattle.name_machine.specs.Replay.{Plans, Replayed, is_mine, is_planned, happens, replay}
+
+module _ {K : Type 0} where
+  -- whether an event is the finish of a task
+  abbrev pub is_finish_of : ℕ → Event K → Bool
+  is_finish_of task (Register caller id children) = false
+  is_finish_of task (Copy caller from to) = false
+  is_finish_of task (Delete caller id) = false
+  is_finish_of task (Ask caller number kind inputs) = false
+  is_finish_of task (Collect caller number got) = false
+  is_finish_of task (Abandon caller) = false
+  is_finish_of task (Stop caller) = false
+  is_finish_of task (Start worker number) = false
+  is_finish_of task (GiveBack worker number) = false
+  is_finish_of task (Finish worker number chunks tasks result) = number == task
+
+-- in every legal run of any library the facts hold
+abbrev pub FactsHold : {C K : Type 0} → Meanings C K → (C → ℕ) → Type 0
+FactsHold {C} {K} lib arity =
+    (events : List (Event K)) (after : Machine C K) → IsLegalRun lib arity events after → HoldsTogether lib after
+
+-- in a list of events that can be replayed no task is finished twice
+abbrev pub FinishedOnce : {K : Type 0} → Plans K → Type 0
+FinishedOnce {K} plans =
+    (events : List (Event K)) (control : Replayed K) (task : ℕ) → replay plans events ≡ Some control
+    → count_by (is_finish_of task) events ≤ 1
+
+-- ---- What a replay refuses, in every state
+
+module _ {K : Type 0} where
+  -- a caller mentions an identifier in an event, as what it holds
+  abbrev pub Mentions : Event K → ℕ → Id → Type 0
+  Mentions (Register by id children) caller mentioned = (by ≡ caller) × (i : ℕ) × (slice_get children i ≡ Some (Held mentioned))
+  Mentions (Copy by from to) caller mentioned = (by ≡ caller) × (from ≡ mentioned)
+  Mentions (Delete by id) caller mentioned = (by ≡ caller) × (id ≡ mentioned)
+  Mentions (Ask by number kind inputs) caller mentioned = (by ≡ caller) × (i : ℕ) × (slice_get inputs i ≡ Some (Held mentioned))
+  Mentions (Collect by number got) caller mentioned = ⊥
+  Mentions (Abandon by) caller mentioned = ⊥
+  Mentions (Stop by) caller mentioned = ⊥
+  Mentions (Start worker number) caller mentioned = ⊥
+  Mentions (GiveBack worker number) caller mentioned = ⊥
+  Mentions (Finish worker number chunks tasks result) caller mentioned = ⊥
+
+  -- a number that an event tells is the one whose turn it is, after so many numbers that were drawn before
+  abbrev pub IsInTurn : ℕ → Event K → Type 0
+  IsInTurn drawn (Register caller id children) = id.number ≡ drawn + 2
+  IsInTurn drawn (Copy caller from to) = to.number ≡ drawn + 1
+  IsInTurn drawn (Delete caller id) = Unit {0}
+  IsInTurn drawn (Ask caller number kind inputs) = number ≡ drawn + 1
+  IsInTurn drawn (Collect caller number got) = Unit {0}
+  IsInTurn drawn (Abandon caller) = Unit {0}
+  IsInTurn drawn (Stop caller) = Unit {0}
+  IsInTurn drawn (Start worker number) = Unit {0}
+  IsInTurn drawn (GiveBack worker number) = Unit {0}
+  IsInTurn drawn (Finish worker number chunks tasks result) = Unit {0}
+
+-- what a caller mentions that it does not hold is refused
+abbrev pub RefusesStrange : {K : Type 0} → Plans K → Type 0
+RefusesStrange {K} plans =
+    (control : Replayed K) (event : Event K) (caller : ℕ) (id : Id) → Mentions event caller id → is_mine control caller id ≡ false
+    → happens plans control event ≡ None
+
+-- a caller does not hold an identifier that is not live
+abbrev pub DeadIsStrange : Type 0 → Type 0
+DeadIsStrange K =
+    (control : Replayed K) (caller : ℕ) (id : Id) → record_of control.names id ≡ None → is_mine control caller id ≡ false
+
+-- a caller does not hold what another caller, a task or a body holds
+abbrev pub OthersAreStrange : Type 0 → Type 0
+OthersAreStrange K =
+    (control : Replayed K) (caller : ℕ) (id : Id) (entry : IdRecord) → record_of control.names id ≡ Some entry
+    → (entry.holder ≡ ByCaller caller → ⊥) → is_mine control caller id ≡ false
+
+-- what was delivered to a caller is not in its map before it collects it
+abbrev pub UncollectedIsStrange : Type 0 → Type 0
+UncollectedIsStrange K =
+    (control : Replayed K) (caller task : ℕ) (id : Id) (ask : AskOf (Unit {0}) Ref) → map.get control.asks task ≡ Some ask
+    → ask.caller ≡ caller → ask.number ≡ id.number → is_some ask.delivered ≡ true → is_mine control caller id ≡ false
+
+-- a number that is not the next one is refused
+abbrev pub RefusesOutOfTurn : {K : Type 0} → Plans K → Type 0
+RefusesOutOfTurn {K} plans =
+    (control : Replayed K) (event : Event K) → (IsInTurn control.drawn event → ⊥) → happens plans control event ≡ None
+
+-- a start is refused where the task is not ready: where it waits, is run, or is none
+abbrev pub RefusesNotReady : {K : Type 0} → Plans K → Type 0
+RefusesNotReady {K} plans =
+    (control : Replayed K) (worker task : ℕ) → (status control.graph task ≡ Ready → ⊥) → happens plans control (Start worker task) ≡ None
+
+-- a worker's second start is refused
+abbrev pub RefusesSecondStart : {K : Type 0} → Plans K → Type 0
+RefusesSecondStart {K} plans =
+    (control : Replayed K) (worker task other : ℕ) (unfinished : Unfinished Ref K) → task_at control.graph other ≡ Some unfinished
+    → unfinished.runner ≡ Some worker → happens plans control (Start worker task) ≡ None
+
+-- a shape that the plan does not allow is refused
+abbrev pub RefusesUnplanned : {K : Type 0} → Plans K → Type 0
+RefusesUnplanned {K} plans =
+    (control : Replayed K) (worker task : ℕ) (unfinished : Unfinished Ref K) (chunks : List Places) (tasks : List (NewTask K)) (result : Place)
+    → task_at control.graph task ≡ Some unfinished → is_planned plans control.names unfinished chunks tasks result ≡ false
+    → happens plans control (Finish worker task chunks tasks result) ≡ None

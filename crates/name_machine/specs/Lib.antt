@@ -1,0 +1,10 @@
+pub mod States
+pub mod NewTasks
+pub mod Steps
+pub mod Machine
+pub mod Goals
+pub mod Control
+pub mod Replay
+pub mod Facts
+pub mod Parts
+pub mod Laws

@@ -1,0 +1,32 @@
+//! The laws of the machine of names and of its replay. Each function does nothing: its contract is the law, which
+//! `specs/Laws.antt` states.
+
+ghost use Rattle.name_machine.specs.Replay.{Plans};
+ghost use Rattle.name_machine.specs.Laws.{FactsHold, FinishedOnce, RefusesStrange, DeadIsStrange, OthersAreStrange, UncollectedIsStrange, RefusesOutOfTurn, RefusesNotReady, RefusesSecondStart, RefusesUnplanned};
+
+use task_types::Library;
+
+/// In a list of events that can be replayed no task is finished twice, whatever the plans are.
+pub fn finished_once<K>()
+    ensures { (plans : Plans K) → FinishedOnce plans }
+{}
+
+/// What a replay refuses, in every state and whatever the plans are: a mention of an identifier that the caller does
+/// not hold, since it is not live, is held by another, or is an output that was not yet collected; a number that is not
+/// the next one; a start of a task that is not ready, and a second start of a worker; and a shape that the plan does
+/// not allow.
+pub fn refusals<K>()
+    ensures strange { (plans : Plans K) → RefusesStrange plans }
+    ensures dead { DeadIsStrange K }
+    ensures others { OthersAreStrange K }
+    ensures uncollected { UncollectedIsStrange K }
+    ensures out_of_turn { (plans : Plans K) → RefusesOutOfTurn plans }
+    ensures not_ready { (plans : Plans K) → RefusesNotReady plans }
+    ensures second_start { (plans : Plans K) → RefusesSecondStart plans }
+    ensures unplanned { (plans : Plans K) → RefusesUnplanned plans }
+{}
+
+/// In every state that a legal run of a library reaches the facts hold.
+pub fn facts_hold<L: Library>()
+    ensures { FactsHold L.meanings L.Chunk.arity }
+{}

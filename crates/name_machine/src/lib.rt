@@ -1,0 +1,6 @@
+//! The machine of names: what a core stands for, in steps that know no stores, counts or threads.
+#![tactic(auto)]
+
+mod laws;
+
+pub use laws::{facts_hold, finished_once, refusals};
