@@ -18,18 +18,23 @@ abbrev pub IsBlock : Bool → Block → Type 0
 IsBlock triangle block =
     IsSoundBlock block.side (greatest block.entries) × (length block.entries ≡ places_of triangle block.side)
 
+-- the bytes behind the tag of a block: its side, its peak and its numbers
 abbrev pub bytes_of_block : Block → List ℕ
 bytes_of_block block = block_bytes block.side (greatest block.entries) block.entries
 
+-- a sound node
 abbrev pub IsNode : Node → Type 0
 IsNode node = IsSoundNode node.height node.peak
 
+-- the bytes behind the tag of a node: its height and its peak
 abbrev pub bytes_of_node : Node → List ℕ
 bytes_of_node node = node_bytes node.height node.peak
 
+-- a sound list of entries
 abbrev pub AreListed : Listed → Type 0
 AreListed listed = AreSoundSpots listed.leaf listed.height listed.symmetric listed.list
 
+-- the bytes behind the tag of a list: its leaf, its height, whether it is symmetric, and its entries
 abbrev pub bytes_of_list : Listed → List ℕ
 bytes_of_list listed = list_bytes listed.leaf listed.height listed.symmetric listed.list
 

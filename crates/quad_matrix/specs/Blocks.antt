@@ -46,15 +46,19 @@ number_of tree = (value tree).number
 
 -- ---- Quadrants
 
+-- the upper left quadrant of a matrix, where a quadrant has so many rows and columns
 abbrev pub upper_left : ℕ → Matrix → Matrix
 upper_left half m = block m 0 0 half half
 
+-- the upper right one
 abbrev pub upper_right : ℕ → Matrix → Matrix
 upper_right half m = block m 0 half half half
 
+-- the lower left one
 abbrev pub lower_left : ℕ → Matrix → Matrix
 lower_left half m = block m half 0 half half
 
+-- the lower right one
 abbrev pub lower_right : ℕ → Matrix → Matrix
 lower_right half m = block m half half half half
 

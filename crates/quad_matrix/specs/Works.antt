@@ -13,10 +13,11 @@ use Rattle.quad_matrix.specs.Blocks.{block_of, leaf_of, upper_left, upper_right,
 abbrev pub asked : {X : Type 0} → Bool → X → List X
 asked wanted item = if wanted then item ∷ [] else []
 
--- whether both trees are there, and whether one of them is
+-- whether both trees are there
 abbrev pub are_both : Tree MatChunk → Tree MatChunk → Bool
 are_both x y = is_there x && is_there y
 
+-- whether one of two trees is there, or both
 abbrev pub is_either : Tree MatChunk → Tree MatChunk → Bool
 is_either x y = is_there x || is_there y
 
@@ -74,5 +75,6 @@ work_at Join h trees = 1
 work_at Trace h trees = 1
 work_at AddNum h trees = 1
 
+-- the work of a kind: how many tasks are finished for it, itself counted
 abbrev pub work_of : MatKind → List (Tree MatChunk) → ℕ
 work_of kind trees = work_at kind.what kind.height trees

@@ -67,13 +67,15 @@ module _ {X K : Type 0} where
   abbrev pub input_at : Graph X K → ℕ → ℕ → Option (Input X)
   input_at graph number place = elim (task_at graph number) [ None ↦ None | Some task ↦ slice_get task.inputs place ]
 
-  -- the caller, the kind, and the number of the asked output of a task
+  -- the caller of a task
   abbrev pub caller_of : Graph X K → ℕ → Option ℕ
   caller_of graph number = option_map (λ task. task.caller) (task_at graph number)
 
+  -- the kind of a task
   abbrev pub kind_of : Graph X K → ℕ → Option K
   kind_of graph number = option_map (λ task. task.kind) (task_at graph number)
 
+  -- the number of the asked output of a task
   abbrev pub asked_of : Graph X K → ℕ → Option ℕ
   asked_of graph number = elim (task_at graph number) [ None ↦ None | Some task ↦ task.asked ]
 
