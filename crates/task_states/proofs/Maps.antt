@@ -57,17 +57,17 @@ module _ {X Y : Type 0} (choice : ℕ → X → Option Y) where
       found_onto q e.0 (choice e.0 e.1) (chosen_of choice entries)
       ∙ elim (same_or_not q e.0) [
         | inl same ↦
-          let here : nat_eq q e.0 ≡ true = ap (nat_eq q) (sym same) ∙ test_same q in
-          let none : find nat_cmp q entries ≡ None = ap (λ k. find nat_cmp k entries) same ∙ missed e.0 entries (first_part _ _ sorted) in
-          ap (λ b. cond b (cond (is_some (choice e.0 e.1)) (choice e.0 e.1) (find nat_cmp q (chosen_of choice entries))) (find nat_cmp q (chosen_of choice entries))) here
-          ∙ first_choice (choice e.0 e.1) _ (rest ∙ ap (option_and_then (choice q)) none)
-          ∙ ap (λ k. choice k e.1) (sym same)
-          ∙ sym (ap (λ b. option_and_then (choice q) (cond b (Some e.1) (find nat_cmp q entries))) (unsigned_tied q e.0 ∙ here))
+            let here : nat_eq q e.0 ≡ true = ap (nat_eq q) (sym same) ∙ test_same q in
+            let none : find nat_cmp q entries ≡ None = ap (λ k. find nat_cmp k entries) same ∙ missed e.0 entries (first_part _ _ sorted) in
+            ap (λ b. cond b (cond (is_some (choice e.0 e.1)) (choice e.0 e.1) (find nat_cmp q (chosen_of choice entries))) (find nat_cmp q (chosen_of choice entries))) here
+            ∙ first_choice (choice e.0 e.1) _ (rest ∙ ap (option_and_then (choice q)) none)
+            ∙ ap (λ k. choice k e.1) (sym same)
+            ∙ sym (ap (λ b. option_and_then (choice q) (cond b (Some e.1) (find nat_cmp q entries))) (unsigned_tied q e.0 ∙ here))
         | inr apart ↦
-          let there : nat_eq q e.0 ≡ false = test_apart q e.0 apart in
-          ap (λ b. cond b (cond (is_some (choice e.0 e.1)) (choice e.0 e.1) (find nat_cmp q (chosen_of choice entries))) (find nat_cmp q (chosen_of choice entries))) there
-          ∙ rest
-          ∙ sym (ap (λ b. option_and_then (choice q) (cond b (Some e.1) (find nat_cmp q entries))) (unsigned_tied q e.0 ∙ there))
+            let there : nat_eq q e.0 ≡ false = test_apart q e.0 apart in
+            ap (λ b. cond b (cond (is_some (choice e.0 e.1)) (choice e.0 e.1) (find nat_cmp q (chosen_of choice entries))) (find nat_cmp q (chosen_of choice entries))) there
+            ∙ rest
+            ∙ sym (ap (λ b. option_and_then (choice q) (cond b (Some e.1) (find nat_cmp q entries))) (unsigned_tied q e.0 ∙ there))
       ]
 
   -- what a choice makes of the value under a key

@@ -4,4 +4,5 @@
 mod states;
 
 pub use states::{Awaiter, Slot, TaskStatus};
+
 mod laws;
