@@ -101,10 +101,10 @@ module _ {C K : Type 0} (lib : Meanings C K) where
         goals_within depth a other.0 other.1 (omega arith)))
         ∙ sym (keeps.goal_is q t is)
 
-    own_goal : (q : ℕ) (t : Unfinished (Tree C) K) → task_at graph q ≡ Some t → goal_within lib drawn graph q ≡ keeps.goals q
+    pub own_goal : (q : ℕ) (t : Unfinished (Tree C) K) → task_at graph q ≡ Some t → goal_within lib drawn graph q ≡ keeps.goals q
     own_goal q t is = goals_within drawn q t is (keeps.low q t is)
 
-    own_readings : (q : ℕ) (t : Unfinished (Tree C) K) → task_at graph q ≡ Some t
+    pub own_readings : (q : ℕ) (t : Unfinished (Tree C) K) → task_at graph q ≡ Some t
         → each (read_input (goal_within lib drawn graph)) t.inputs ≡ each (read_input keeps.goals) t.inputs
     own_readings q t is =
         same_readings (goal_within lib drawn graph) keeps.goals t.inputs (λ p a n at.

@@ -11,3 +11,13 @@ pub mod Stands
 pub mod Answered
 pub mod Finishing
 pub mod Runs
+pub mod Totals
+pub mod Works
+pub mod Telling
+pub mod Finished
+pub mod WorksIn
+pub mod FinishedWorks
+pub mod Accounts
+pub mod Held
+pub mod CallerParts
+pub mod WorkerParts

@@ -1,5 +1,5 @@
 -- The laws of the machine and of replay, as statements. The functions of `laws` carry each as their contract.
-use Rattle.std.specs.Prelude.{◌≡◌, ℕ, ◌+◌, ◌≤◌, ◌==◌, Bool, true, false, List, slice_get, count_by, None, Some}
+use Rattle.std.specs.Prelude.{[], ◌∷◌, ◌++◌, ◌-◌, map as each, if◌then◌else◌, ◌≡◌, ℕ, ◌+◌, ◌≤◌, ◌==◌, Bool, true, false, List, slice_get, count_by, None, Some}
 use Rattle.std.specs.Option.{is_some}
 use Rattle.std.specs.FinMap as map
 use Rattle.cht_ids.specs.declared.refs.Id.{Id}
@@ -15,9 +15,10 @@ use Rattle.task_states.specs.States.{Unfinished, task_at, status}
 use Rattle.task_types.specs.Meanings.{Meanings}
 use Rattle.cht_history.specs.declared.event.Event.{Event}
 use Rattle.cht_history.specs.declared.event.Event.TheVariants.{Register, Copy, Delete, Ask, Collect, Abandon, Stop, Start, GiveBack, Finish}
-use Rattle.name_machine.specs.States.{Machine, Ask as AskOf}
-use Rattle.name_machine.specs.Machine.{IsLegalRun}
+use Rattle.name_machine.specs.States.{Machine, Ask as AskOf, tree_named}
+use Rattle.name_machine.specs.Machine.{IsStep, IsLegalRun}
 use Rattle.name_machine.specs.Facts.{HoldsTogether}
+use Rattle.name_machine.specs.Parts.{is_callers_own, is_workers_own, work_left, account_of, caller_part, worker_part}
 use Rattle.name_machine.specs.Replay.{Plans, Replayed, is_mine, is_planned, happens, replay}
 
 module _ {K : Type 0} where
@@ -38,6 +39,45 @@ module _ {K : Type 0} where
 abbrev pub FactsHold : {C K : Type 0} → Meanings C K → (C → ℕ) → Type 0
 FactsHold {C} {K} lib arity =
     (events : List (Event K)) (after : Machine C K) → IsLegalRun lib arity events after → HoldsTogether lib after
+
+-- ---- Parts
+
+module _ {C K : Type 0} where
+  -- What an event makes of the account of a caller: its own ask adds the work of the asked kind on the trees of the inputs, its own
+  -- abandon takes off what was left to do for it, and every other event leaves it.
+  abbrev pub account_then : Meanings C K → Machine C K → ℕ → Event K → ℕ → ℕ
+  account_then lib before caller (Register by id children) account = account
+  account_then lib before caller (Copy by from to) account = account
+  account_then lib before caller (Delete by id) account = account
+  account_then lib before caller (Ask by task kind inputs) account =
+      if by == caller then account + lib.work kind (each (tree_named before) inputs) else account
+  account_then lib before caller (Collect by task got) account = account
+  account_then lib before caller (Abandon by) account = if by == caller then account - work_left lib before caller else account
+  account_then lib before caller (Stop by) account = account
+  account_then lib before caller (Start worker task) account = account
+  account_then lib before caller (GiveBack worker task) account = account
+  account_then lib before caller (Finish worker task chunks tasks result) account = account
+
+-- an event, after a legal run, changes the account of each caller as told
+abbrev pub AccountsChange : {C K : Type 0} → Meanings C K → (C → ℕ) → Type 0
+AccountsChange {C} {K} lib arity =
+    (events : List (Event K)) (before after : Machine C K) (event : Event K) (caller : ℕ) → IsLegalRun lib arity events before
+    → IsStep lib arity before event after
+    → account_of lib after (events ++ event ∷ []) caller ≡ account_then lib before caller event (account_of lib before events caller)
+
+-- an event, after a legal run, leaves the part of each caller whose own it is not
+abbrev pub LeavesCallers : {C K : Type 0} → Meanings C K → (C → ℕ) → Type 0
+LeavesCallers {C} {K} lib arity =
+    (events : List (Event K)) (before after : Machine C K) (event : Event K) (caller : ℕ) → IsLegalRun lib arity events before
+    → IsStep lib arity before event after → is_callers_own caller event ≡ false
+    → caller_part lib after (events ++ event ∷ []) caller ≡ caller_part lib before events caller
+
+-- an event, after a legal run, leaves the part of each worker whose own it is not
+abbrev pub LeavesWorkers : {C K : Type 0} → Meanings C K → (C → ℕ) → Type 0
+LeavesWorkers {C} {K} lib arity =
+    (events : List (Event K)) (before after : Machine C K) (event : Event K) (worker : ℕ) → IsLegalRun lib arity events before
+    → IsStep lib arity before event after → is_workers_own worker event ≡ false
+    → worker_part after (events ++ event ∷ []) worker ≡ worker_part before events worker
 
 -- in a list of events that can be replayed no task is finished twice
 abbrev pub FinishedOnce : {K : Type 0} → Plans K → Type 0

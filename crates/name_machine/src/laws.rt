@@ -2,7 +2,7 @@
 //! `specs/Laws.antt` states.
 
 ghost use Rattle.name_machine.specs.Replay.{Plans};
-ghost use Rattle.name_machine.specs.Laws.{FactsHold, FinishedOnce, RefusesStrange, DeadIsStrange, OthersAreStrange, UncollectedIsStrange, RefusesOutOfTurn, RefusesNotReady, RefusesSecondStart, RefusesUnplanned};
+ghost use Rattle.name_machine.specs.Laws.{AccountsChange, LeavesCallers, LeavesWorkers, FactsHold, FinishedOnce, RefusesStrange, DeadIsStrange, OthersAreStrange, UncollectedIsStrange, RefusesOutOfTurn, RefusesNotReady, RefusesSecondStart, RefusesUnplanned};
 
 use task_types::Library;
 
@@ -29,4 +29,16 @@ pub fn refusals<K>()
 /// In every state that a legal run of a library reaches the facts hold.
 pub fn facts_hold<L: Library>()
     ensures { FactsHold L.meanings L.Chunk.arity }
+{}
+
+/// An event after a legal run changes the account of each caller as told: its own ask adds work, its own abandon takes
+/// off what was left to do, and nothing else changes it.
+pub fn accounts_change<L: Library>()
+    ensures { AccountsChange L.meanings L.Chunk.arity }
+{}
+
+/// An event after a legal run leaves the part of each caller and of each worker whose own it is not.
+pub fn parts_stay<L: Library>()
+    ensures callers { LeavesCallers L.meanings L.Chunk.arity }
+    ensures workers { LeavesWorkers L.meanings L.Chunk.arity }
 {}
