@@ -816,3 +816,7 @@ module _ {C K : Type 0} (lib : Meanings C K) (arity : C → ℕ) (drawn : ℕ) (
   pub goals_after : (q : ℕ) → kept_by_finish.goals q ≡ goals q
   unfolding kept_by_finish
   goals_after q = refl
+
+  -- and nobody is stopped by it
+  pub stopped_final : (c : ℕ) → is_stopped final c ≡ is_stopped graph c
+  stopped_final c = stopped_same stand c ∙ stopped_with value numbers ran.caller base outcome.tasks graph c

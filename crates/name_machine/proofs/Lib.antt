@@ -21,3 +21,4 @@ pub mod Accounts
 pub mod Held
 pub mod CallerParts
 pub mod WorkerParts
+pub mod Stopping

@@ -1,5 +1,6 @@
 -- The laws of the machine and of replay, as statements. The functions of `laws` carry each as their contract.
 use Rattle.std.specs.Prelude.{[], ◌∷◌, ◌++◌, ◌-◌, map as each, if◌then◌else◌, ◌≡◌, ℕ, ◌+◌, ◌≤◌, ◌==◌, Bool, true, false, List, slice_get, count_by, None, Some}
+use Rattle.std.specs.List.{list_any}
 use Rattle.std.specs.Option.{is_some}
 use Rattle.std.specs.FinMap as map
 use Rattle.cht_ids.specs.declared.refs.Id.{Id}
@@ -11,7 +12,7 @@ use Rattle.task_types.specs.declared.outcome.NewTask.{NewTask}
 use Rattle.name_states.specs.declared.holder.Holder.TheVariants.{Caller as ByCaller}
 use Rattle.name_states.specs.States.{IdRecord, record_of}
 use Rattle.task_states.specs.declared.states.TaskStatus.TheVariants.{Ready}
-use Rattle.task_states.specs.States.{Unfinished, task_at, status}
+use Rattle.task_states.specs.States.{Unfinished, task_at, status, is_stopped}
 use Rattle.task_types.specs.Meanings.{Meanings}
 use Rattle.cht_history.specs.declared.event.Event.{Event}
 use Rattle.cht_history.specs.declared.event.Event.TheVariants.{Register, Copy, Delete, Ask, Collect, Abandon, Stop, Start, GiveBack, Finish}
@@ -78,6 +79,54 @@ LeavesWorkers {C} {K} lib arity =
     (events : List (Event K)) (before after : Machine C K) (event : Event K) (worker : ℕ) → IsLegalRun lib arity events before
     → IsStep lib arity before event after → is_workers_own worker event ≡ false
     → worker_part after (events ++ event ∷ []) worker ≡ worker_part before events worker
+
+-- ---- Stops
+
+module _ {K : Type 0} where
+  -- whether an event is a caller's ask, or its abandon
+  abbrev pub asks_or_abandons : ℕ → Event K → Bool
+  asks_or_abandons caller (Register by id children) = false
+  asks_or_abandons caller (Copy by from to) = false
+  asks_or_abandons caller (Delete by id) = false
+  asks_or_abandons caller (Ask by task kind inputs) = by == caller
+  asks_or_abandons caller (Collect by task got) = false
+  asks_or_abandons caller (Abandon by) = by == caller
+  asks_or_abandons caller (Stop by) = false
+  asks_or_abandons caller (Start worker task) = false
+  asks_or_abandons caller (GiveBack worker task) = false
+  asks_or_abandons caller (Finish worker task chunks tasks result) = false
+
+  -- whether an event is a caller's abandon
+  abbrev pub abandons : ℕ → Event K → Bool
+  abandons caller (Register by id children) = false
+  abandons caller (Copy by from to) = false
+  abandons caller (Delete by id) = false
+  abandons caller (Ask by task kind inputs) = false
+  abandons caller (Collect by task got) = false
+  abandons caller (Abandon by) = by == caller
+  abandons caller (Stop by) = false
+  abandons caller (Start worker task) = false
+  abandons caller (GiveBack worker task) = false
+  abandons caller (Finish worker task chunks tasks result) = false
+
+  -- A stop of a caller stands among some events, and no ask and no abandon of the caller after it: what it asked, it asked before.
+  pub record HasStopLast (caller : ℕ) (events : List (Event K)) : Type 0 where
+    pub front : List (Event K)
+    pub back : List (Event K)
+    pub split : events ≡ front ++ Stop caller ∷ back
+    pub none_since : list_any (asks_or_abandons caller) back ≡ false
+
+-- where a caller is stopped its asks are older than its last stop
+abbrev pub StopsAreLast : {C K : Type 0} → Meanings C K → (C → ℕ) → Type 0
+StopsAreLast {C} {K} lib arity =
+    (events : List (Event K)) (after : Machine C K) (caller : ℕ) → IsLegalRun lib arity events after → is_stopped after.graph caller ≡ true
+    → HasStopLast caller events
+
+-- where a caller is not stopped it abandoned after each of its stops
+abbrev pub StopsEnd : {C K : Type 0} → Meanings C K → (C → ℕ) → Type 0
+StopsEnd {C} {K} lib arity =
+    (events front back : List (Event K)) (after : Machine C K) (caller : ℕ) → IsLegalRun lib arity events after
+    → is_stopped after.graph caller ≡ false → events ≡ front ++ Stop caller ∷ back → list_any (abandons caller) back ≡ true
 
 -- in a list of events that can be replayed no task is finished twice
 abbrev pub FinishedOnce : {K : Type 0} → Plans K → Type 0

@@ -2,7 +2,7 @@
 //! `specs/Laws.antt` states.
 
 ghost use Rattle.name_machine.specs.Replay.{Plans};
-ghost use Rattle.name_machine.specs.Laws.{AccountsChange, LeavesCallers, LeavesWorkers, FactsHold, FinishedOnce, RefusesStrange, DeadIsStrange, OthersAreStrange, UncollectedIsStrange, RefusesOutOfTurn, RefusesNotReady, RefusesSecondStart, RefusesUnplanned};
+ghost use Rattle.name_machine.specs.Laws.{AccountsChange, LeavesCallers, LeavesWorkers, FactsHold, StopsAreLast, StopsEnd, FinishedOnce, RefusesStrange, DeadIsStrange, OthersAreStrange, UncollectedIsStrange, RefusesOutOfTurn, RefusesNotReady, RefusesSecondStart, RefusesUnplanned};
 
 use task_types::Library;
 
@@ -41,4 +41,11 @@ pub fn accounts_change<L: Library>()
 pub fn parts_stay<L: Library>()
     ensures callers { LeavesCallers L.meanings L.Chunk.arity }
     ensures workers { LeavesWorkers L.meanings L.Chunk.arity }
+{}
+
+/// After a legal run a caller is stopped exactly where a stop of it stands among the events with no abandon of it since.
+/// It has asked nothing since then: its asks are older than the stop.
+pub fn stops<L: Library>()
+    ensures last { StopsAreLast L.meanings L.Chunk.arity }
+    ensures end { StopsEnd L.meanings L.Chunk.arity }
 {}

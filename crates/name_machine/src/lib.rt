@@ -3,4 +3,4 @@
 
 mod laws;
 
-pub use laws::{accounts_change, facts_hold, finished_once, parts_stay, refusals};
+pub use laws::{accounts_change, facts_hold, finished_once, parts_stay, refusals, stops};
