@@ -22,3 +22,4 @@ pub mod Held
 pub mod CallerParts
 pub mod WorkerParts
 pub mod Stopping
+pub mod Forgets

@@ -5,6 +5,7 @@ pub mod Machine
 pub mod Goals
 pub mod Control
 pub mod Replay
+pub mod Forgetting
 pub mod Facts
 pub mod Parts
 pub mod Laws

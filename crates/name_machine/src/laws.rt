@@ -1,6 +1,8 @@
 //! The laws of the machine of names and of its replay. Each function does nothing: its contract is the law, which
 //! `specs/Laws.antt` states.
 
+ghost use Rattle.std.specs.Prelude.{ℕ};
+ghost use Rattle.name_machine.specs.Forgetting.{ForgettingReplays};
 ghost use Rattle.name_machine.specs.Replay.{Plans};
 ghost use Rattle.name_machine.specs.Laws.{AccountsChange, LeavesCallers, LeavesWorkers, FactsHold, StopsAreLast, StopsEnd, FinishedOnce, RefusesStrange, DeadIsStrange, OthersAreStrange, UncollectedIsStrange, RefusesOutOfTurn, RefusesNotReady, RefusesSecondStart, RefusesUnplanned};
 
@@ -48,4 +50,10 @@ pub fn parts_stay<L: Library>()
 pub fn stops<L: Library>()
     ensures last { StopsAreLast L.meanings L.Chunk.arity }
     ensures end { StopsEnd L.meanings L.Chunk.arity }
+{}
+
+/// An event that is allowed does, in a control state that keeps contents, what a replay makes of it with the number of
+/// children in place of each content, whatever the plans are.
+pub fn forgetting_replays<C, K>()
+    ensures { (arity : C → ℕ) (plans : Plans K) → ForgettingReplays arity plans }
 {}
