@@ -15,7 +15,7 @@ import tempfile
 
 from parts import built
 
-CRATES = ["cht_ids", "chunk_store", "task_types", "chunk_refs"]
+CRATES = ["cht_ids", "chunk_store", "name_states", "task_types", "chunk_refs"]
 PARTS = [
     ("main.rt.txt", "src/main.rt"),
     ("Draws.antt.txt", "proofs/Draws.antt"),

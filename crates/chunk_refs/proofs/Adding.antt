@@ -13,14 +13,14 @@ use Rattle.chunk_refs.specs.declared.parts.StoredId.{StoredId}
 use Rattle.chunk_refs.specs.declared.parts.Chunk.{Chunk}
 use Rattle.chunk_refs.specs.declared.parts.Parts.{Parts}
 use Rattle.name_states.specs.States.{IdRecord, id_at, body_at, record_of, owned_by, IsLive}
-use Rattle.name_states.specs.Steps.{with_id, with_body, with_naming, copied}
+use Rattle.name_states.specs.Steps.{with_id, with_body, with_copy, copied}
 use Rattle.chunk_refs.specs.Inside.{names_of, ids_of, bodies_of, names_of_body, shown_id, shown_chunk, chunk_at, ArePlaced, HasChain, IsPut, AreNull, all_four}
 use Rattle.name_states.proofs.Basics.{same_some, none_not_some, some_value}
 use Rattle.chunk_refs.proofs.Bodies.{shown-bodies_of}
 use Rattle.chunk_refs.proofs.Counts.{names-put, names-le-length, no_more_keys}
 use Rattle.chunk_refs.proofs.Ids.{get-ids_of}
 use Rattle.chunk_refs.proofs.Ending.{no-chain, positive, not_on_none}
-use Rattle.chunk_refs.proofs.Within.{live-number, owned-same}
+use Rattle.name_states.proofs.Within.{live-number, owned-same}
 use Rattle.chunk_refs.proofs.Linked.{put, put-names, added, added-names}
 
 none_behind : {A B : Type 0} (f : A → B) (found : Option A) → option_map f found ≡ None → found ≡ None
@@ -75,7 +75,7 @@ module _ {C : Type 0} where
       let there = subst (λ stores. ArePlaced before.stores.items stores source.owner source.key (Some (record chunk { names = chunk.names + 1 }))) (sym same) placed in
       let names : id_at (names_of before) from ≡ Some (shown_id source) = get-ids_of before.ids.entries from ∙ ap (option_map shown_id) is in (
         added-names before after source chunk number (record source { holder = holder }) linked at there put_is
-            ∙ ap (with_naming (names_of before) number holder) (sym names),
+            ∙ ap (with_copy (names_of before) number holder) (sym names),
         ([], added before after from source chunk number (record source { holder = holder }) linked is at there refl refl refl put_is bodies),
       )
 

@@ -23,15 +23,15 @@ use Rattle.chunk_refs.specs.Others.{AreAllAsBefore, AreRestAsBefore, AreOthersLi
 use Rattle.chunk_refs.specs.Inside.{names_of, shown_id, shown_chunk, refs_of, all_four, chunk_at, HasChain}
 use Rattle.name_states.proofs.Basics.{same_some, none_not_some, some_value, test_apart, removed_from, removed_here, removed_other}
 use Rattle.chunk_refs.proofs.Bodies.{shown-bodies_of}
-use Rattle.chunk_refs.proofs.Copies.{copied-here, bodies-with_naming}
+use Rattle.name_states.proofs.Copies.{copied-here, bodies-with_copy}
 use Rattle.chunk_refs.proofs.Grown.{others-kept}
 use Rattle.chunk_refs.proofs.Ids.{get-ids_of}
 use Rattle.chunk_refs.proofs.Linked.{named-chunk}
 use Rattle.name_states.proofs.Reaching.{outside-passes, reached-from-test, reached-by, reached-to-test}
-use Rattle.chunk_refs.proofs.Sound.{sound-copied, sound-without, more-registered, nothing-left, new-body, new-naming}
+use Rattle.name_states.proofs.Sound.{sound-copied, sound-without, more-registered, nothing-left, new-body, new-naming}
 use Rattle.name_states.proofs.Swept.{cond-some, body_at-swept, naming_at-swept}
-use Rattle.chunk_refs.proofs.Trees.{AreMore, same-within, same-children, body-tree-kept}
-use Rattle.chunk_refs.proofs.Within.{live-number, naming-number, number-naming, copied-keeps}
+use Rattle.name_states.proofs.Within.{AreMore, live-number, naming-number, number-naming, copied-keeps}
+use Rattle.chunk_refs.proofs.Trees.{same-within, same-children, body-tree-kept}
 
 for-some : {X : Type 0} (P : X → Type 0) (found : Option X) (x : X) → found ≡ Some x → ForSome found P → P x
 for-some P found x is holds = holds x is
@@ -82,7 +82,7 @@ module _ {C : Type 0} where
       let number = naming-number names id naming.0 naming.1 in
       sound-without arity names id.number naming.0 sound number.0 (for-some IsOutside (holder_of names id) naming.0.holder (ap (option_map (λ (n : IdRecord). n.holder)) naming.1) outside)
 
-  behind-body : (names : NameState C) (found : Option IdRecord) (body : BodyRecord C) → body_named names found ≡ Some body → (naming : IdRecord) × (body_at names naming.body ≡ Some body) × (found ≡ Some naming)
+  pub behind-body : (names : NameState C) (found : Option IdRecord) (body : BodyRecord C) → body_named names found ≡ Some body → (naming : IdRecord) × (body_at names naming.body ≡ Some body) × (found ≡ Some naming)
   behind-body names None body is = absurd (none_not_some refl is)
   behind-body names (Some naming) body is = (naming, is, refl)
 
@@ -128,7 +128,7 @@ module _ {C : Type 0} where
   pub more-copied : (names : NameState C) (from number : ℕ) (holder : Holder) → id_at names number ≡ None → AreMore names (copied names from number holder)
   more-copied names from number holder free = record {
     ids = copied-keeps names from number holder free;
-    bodies = λ q body is. ap (λ b. map.get b q) (bodies-with_naming names number holder (id_at names from)) ∙ is;
+    bodies = λ q body is. ap (λ b. map.get b q) (bodies-with_copy names number holder (id_at names from)) ∙ is;
   }
 
   pub copy-named : (names : NameState C) (id : Id) (number : ℕ) (holder : Holder) → IsLive names id
@@ -190,7 +190,13 @@ module _ {C : Type 0} where
   pub delete-rest : (arity : C → ℕ) (names : NameState C) (number : ℕ) → IsSound arity (swept (without_id names number)) → AreRestAsBefore names (swept (without_id names number))
   delete-rest arity names number sound id live =
       let kept = others-kept arity (swept (without_id names number)) names sound (more-deleted names number) id live in
-      (sym kept.0, sym kept.1)
+      record {
+        holder = sym kept.holder;
+        body = sym kept.body;
+        content = sym kept.content;
+        children = sym kept.children;
+        tree = sym kept.tree;
+      }
 
   pub copy-others : (arity : C → ℕ) (names : NameState C) (from number : ℕ) (holder : Holder) → IsSound arity names → id_at names number ≡ None → AreAllAsBefore names (copied names from number holder)
   copy-others arity names from number holder sound free = others-kept arity names (copied names from number holder) sound (more-copied names from number holder free)

@@ -1,15 +1,16 @@
 -- A body is registered: from the steps to what the call makes of the names.
-use Rattle.std.proofs.Common.{◌≡◌, ℕ, ◌+◌, ◌≤◌, List, take, drop, length, Some, sym, ap, subst, ◌∙◌, arith}
+use Rattle.std.proofs.Common.{◌≡◌, ℕ, ◌+◌, ◌≤◌, List, take, drop, length, sym, ap, subst, ◌∙◌, arith}
 use Rattle.cht_ids.specs.declared.refs.Ref.{Ref}
 use Rattle.name_states.specs.declared.holder.Holder.{Holder}
 use Rattle.name_states.specs.declared.holder.Holder.TheVariants.{Body}
 use Rattle.chunk_refs.specs.declared.children.Children.{Children}
-use Rattle.name_states.specs.States.{NameState, IdRecord, id_at, AreLive}
+use Rattle.name_states.specs.States.{NameState, AreLive}
 use Rattle.chunk_refs.specs.Room.{Room, IsLeft, spare_at}
-use Rattle.name_states.specs.Steps.{with_id, with_body, linked, registered, numbered, present}
+use Rattle.name_states.specs.Steps.{linked, registered, numbered, present}
 use Rattle.name_states.specs.Rules.{AreWithin}
 use Rattle.chunk_refs.specs.Inside.{AreNull, all_four, refs_of}
-use Rattle.chunk_refs.proofs.Within.{within-more, within-id, within-body, unnamed-next, naming-kept, all-live-kept, linked-padded, numbered-padded, numbered-take, present-padded}
+use Rattle.name_states.proofs.Within.{with_both, kept-both, all-live-kept}
+use Rattle.chunk_refs.proofs.Padded.{linked-padded, numbered-padded, numbered-take, present-padded}
 
 -- the identifiers of children are null where the children are
 pub own-padded : (drawn : ℕ) (children own : Children) → AreNull (drop children.count (all_four children)) → own.count ≡ children.count → all_four own ≡ numbered drawn (all_four children)
@@ -33,21 +34,6 @@ left-more before middle after worker used children padded left bodies ids = reco
 }
 
 module _ {C : Type 0} where
-  -- a body with its first identifier
-  abbrev pub with_both : NameState C → ℕ → ℕ → Holder → ℕ → C → List Ref → NameState C
-  with_both names number name holder worker content refs =
-      with_id (with_body names number (record { owner = worker; content = content; children = refs })) name (record { owner = worker; body = number; holder = holder })
-
-  pub within-both : (names : NameState C) (drawn number name : ℕ) (holder : Holder) (worker : ℕ) (content : C) (refs : List Ref) → AreWithin names drawn → number ≡ drawn + 1 → name ≡ drawn + 2
-      → AreWithin (with_both names number name holder worker content refs) name
-  within-both names drawn number name holder worker content refs within n m =
-      within-id _ name _ name (within-body names number _ name (within-more names drawn name within (omega arith)) (omega arith)) (omega arith)
-
-  pub kept-both : (names : NameState C) (drawn number name : ℕ) (holder : Holder) (worker : ℕ) (content : C) (refs : List Ref) → AreWithin names drawn → name ≡ drawn + 2
-      → (q : ℕ) (naming : IdRecord) → id_at names q ≡ Some naming → id_at (with_both names number name holder worker content refs) q ≡ Some naming
-  kept-both names drawn number name holder worker content refs within m q naming is =
-      naming-kept names name (record { owner = worker; body = number; holder = holder }) q naming (unnamed-next names drawn name within (omega arith)) is
-
   -- the children stay live
   pub live-both : (names middle : NameState C) (drawn number name : ℕ) (holder : Holder) (worker : ℕ) (content : C) (refs children : List Ref) → AreWithin names drawn → name ≡ drawn + 2
       → middle ≡ with_both names number name holder worker content refs

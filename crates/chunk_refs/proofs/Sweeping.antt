@@ -1,5 +1,5 @@
 -- One step of a deletion after another, down to what is reached.
-use Rattle.std.proofs.Common.{◌≡◌, ℕ, zero, suc, Bool, true, false, cond, List, [], ◌∷◌, Option, Some, None, is_some, refl, sym, ap, subst, ◌∙◌}
+use Rattle.std.proofs.Common.{◌≡◌, ℕ, zero, suc, cond, List, [], ◌∷◌, Some, None, is_some, refl, sym, ap, subst, ◌∙◌}
 use Rattle.std.specs.Prelude.{slice_get}
 use Rattle.std.specs.Cmp.{nat_cmp_total}
 use Rattle.std.specs.FinMap as map
@@ -10,7 +10,7 @@ use Rattle.name_states.specs.declared.holder.Holder.{Holder}
 use Rattle.name_states.specs.declared.holder.Holder.TheVariants.{Caller, Task, Body}
 use Rattle.name_states.specs.States.{NameState, IdRecord, BodyRecord, id_at, body_at}
 use Rattle.name_states.specs.Steps.{without_id, without_body}
-use Rattle.name_states.specs.Reached.{IsReached, keeps_up, is_reached, is_kept, swept}
+use Rattle.name_states.specs.Reached.{IsReached, is_reached, is_kept, swept}
 use Rattle.name_states.specs.Rules.{IsSound, AreReached}
 use Rattle.name_states.specs.Reached.{IsHeldUp}
 use Rattle.chunk_refs.specs.Deleting.{IsPartial, IsTaken, without_refs}

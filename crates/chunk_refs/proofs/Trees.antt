@@ -5,18 +5,13 @@ use Rattle.cht_ids.specs.declared.refs.Id.{Id}
 use Rattle.cht_ids.specs.declared.refs.Ref.{Ref}
 use Rattle.cht_ids.specs.declared.refs.Ref.TheVariants.{Null, Id as Held}
 use Rattle.task_types.specs.Tree.{Tree, Nothing, rooted}
-use Rattle.name_states.specs.States.{NameState, IdRecord, BodyRecord, id_at, body_at, record_of, owned_by, IsLiveRef}
+use Rattle.name_states.specs.States.{NameState, IdRecord, BodyRecord, body_at, record_of, owned_by, IsLiveRef}
 use Rattle.chunk_refs.specs.Trees.{tree_named, led_to, grown, tree_within, body_tree, tree_of}
 use Rattle.name_states.specs.Rules.{IsSound}
 use Rattle.name_states.proofs.Basics.{same_some, some_value}
-use Rattle.chunk_refs.proofs.Within.{naming_of-kept, live-number, owned-same}
+use Rattle.name_states.proofs.Within.{AreMore, naming_of-kept, live-number, owned-same}
 
 module _ {C : Type 0} where
-  -- all that some names have, others have too
-  pub record AreMore (names more : NameState C) : Type 0 where
-    pub ids : (number : ℕ) (naming : IdRecord) → id_at names number ≡ Some naming → id_at more number ≡ Some naming
-    pub bodies : (number : ℕ) (body : BodyRecord C) → body_at names number ≡ Some body → body_at more number ≡ Some body
-
   -- the body that a live identifier names is there
   pub body-named : (arity : C → ℕ) (names : NameState C) (id : Id) (naming : IdRecord) → IsSound arity names → record_of names id ≡ Some naming → IsSome (body_at names naming.body)
   body-named arity names id naming sound is =

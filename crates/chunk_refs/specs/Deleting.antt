@@ -41,13 +41,13 @@ module _ {C : Type 0} where
   abbrev pub IsTaken : NameState C → NameState C → Type 0
   IsTaken before after =
       (number : ℕ) × (body : BodyRecord C) × (body_at before number ≡ Some body)
-      × ((id : ℕ) (naming : IdRecord) → id_at before id ≡ Some naming → naming.body ≡ number → ⊥)
+      × ((id : ℕ) (entry : IdRecord) → id_at before id ≡ Some entry → entry.body ≡ number → ⊥)
       × (after ≡ without_refs (without_body before number) body.children)
 
   -- A deletion so far: nothing is new, and what was reached when it began is as it was.
   pub record IsPartial (arity : C → ℕ) (before now : NameState C) : Type 0 where
     pub sound : IsSound arity now
-    pub ids : (number : ℕ) (naming : IdRecord) → id_at now number ≡ Some naming → id_at before number ≡ Some naming
+    pub ids : (number : ℕ) (entry : IdRecord) → id_at now number ≡ Some entry → id_at before number ≡ Some entry
     pub bodies : (number : ℕ) (body : BodyRecord C) → body_at now number ≡ Some body → body_at before number ≡ Some body
-    pub ids_stay : (number : ℕ) (naming : IdRecord) → id_at before number ≡ Some naming → IsHeldUp before naming.holder → id_at now number ≡ Some naming
+    pub ids_stay : (number : ℕ) (entry : IdRecord) → id_at before number ≡ Some entry → IsHeldUp before entry.holder → id_at now number ≡ Some entry
     pub bodies_stay : (number : ℕ) (body : BodyRecord C) → body_at before number ≡ Some body → IsReached before number → body_at now number ≡ Some body

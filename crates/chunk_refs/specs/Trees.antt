@@ -6,10 +6,10 @@ use Rattle.task_types.specs.Tree.{Tree, Nothing, rooted}
 use Rattle.name_states.specs.States.{NameState, IdRecord, BodyRecord, record_of, body_at}
 
 module _ {C : Type 0} where
-  -- the tree that a naming leads to, where the trees of bodies are these
+  -- the tree that the record of an identifier leads to, where the trees of bodies are these
   abbrev pub tree_named : (ℕ → Tree C) → Option IdRecord → Tree C
   tree_named trees None = Nothing
-  tree_named trees (Some naming) = trees naming.body
+  tree_named trees (Some entry) = trees entry.body
 
   -- the tree that a reference leads to, where the trees of bodies are these
   abbrev pub led_to : (ℕ → Tree C) → NameState C → Ref → Tree C

@@ -2,13 +2,13 @@ ghost use Rattle.std.specs.Prelude.{◌≡◌, ◌↔◌, ℕ, ◌+◌, ◌≤�
 ghost use Rattle.std.specs.Option.{ForSome};
 ghost use Rattle.cht_ids.specs.declared.refs.Ref.TheVariants.{Id as Held};
 ghost use Rattle.task_types.specs.Tree.{rooted, child};
-ghost use Rattle.name_states.specs.States.{IdRecord, id_at, body_at, IsLive, AreLive, holder_of, body_of, content_of, children_of, no_names, live_ids, live_bodies};
+ghost use Rattle.name_states.specs.States.{IdRecord, id_at, body_at, IsLive, IsLiveRef, AreLive, holder_of, body_of, content_of, children_of, no_names, live_ids, live_bodies};
 ghost use Rattle.chunk_refs.specs.Room.{workers_of, spare_of, IsAtLeast, IsLeft};
 ghost use Rattle.chunk_refs.specs.Trees.{tree_of};
 ghost use Rattle.name_states.specs.Steps.{IsOutside, present, numbered, registered, copied, without_id};
 ghost use Rattle.name_states.specs.Reached.{IsReached, swept};
 ghost use Rattle.name_states.specs.Rules.{IsSound, AreReached, AreWithin};
-ghost use Rattle.chunk_refs.specs.Others.{AreAllAsBefore, AreRestAsBefore, AreOthersLive};
+ghost use Rattle.chunk_refs.specs.Others.{AreAllAsBefore, AreRestAsBefore, AreOthersLive, IsOnlyNew, IsHeldByBodyOf};
 
 use crate::children::Children;
 use crate::parts::Parts;
@@ -93,12 +93,15 @@ impl<C: Payload> Refs<C> {
         ensures names { OnOk result (self.new.names ≡ registered self.old.names counter.old holder worker body children.now) }
 
         // The new identifier has its holder, and leads to the content over the trees of the children. Its body has one
-        // identifier of its own for each child. All other identifiers are held by whom they were and lead where they led.
+        // identifier of its own for each child. All other identifiers are held by whom they were, name the bodies that
+        // they named and lead where they led; of callers' and tasks' identifiers the new one alone is new.
         ensures held { IfOk result (λ id. holder_of self.new.names id ≡ Some holder) }
         ensures body { IfOk result (λ id. body_of self.new.names id ≡ Some (counter.old + 1)) }
         ensures children { IfOk result (λ id. children_of self.new.names id ≡ numbered (counter.old + 2) children.now) }
         ensures tree { IfOk result (λ id. tree_of self.new.names (Held id) ≡ rooted body (each (tree_of self.old.names) children.now)) }
         ensures others { AreAllAsBefore self.old.names self.new.names }
+        ensures only { IfOk result (λ id. IsOnlyNew self.old.names self.new.names id) }
+        ensures reached { AreReached self.new.names }
         ensures numbered { AreWithin self.new.names counter.new }
 
         // Want of memory.
@@ -125,11 +128,14 @@ impl<C: Payload> Refs<C> {
         ensures id { IfOk result (λ new. new ≡ record { owner = id.owner; number = number }) }
         ensures names { OnOk result (self.new.names ≡ copied self.old.names id.number number holder) }
 
-        // The new identifier names the same body, and all others are held by whom they were and lead where they led.
+        // The new identifier names the same body. All others are held by whom they were, name the bodies that they named
+        // and lead where they led; of callers' and tasks' identifiers the new one alone is new.
         ensures body { IfOk result (λ new. body_of self.new.names new ≡ body_of self.old.names id) }
         ensures tree { IfOk result (λ new. tree_of self.new.names (Held new) ≡ tree_of self.old.names (Held id)) }
         ensures held { IfOk result (λ new. holder_of self.new.names new ≡ Some holder) }
         ensures others { AreAllAsBefore self.old.names self.new.names }
+        ensures only { IfOk result (λ new. IsOnlyNew self.old.names self.new.names new) }
+        ensures reached { AreReached self.new.names }
         ensures numbered { (bound : ℕ) → AreWithin self.old.names bound → number ≤ bound → AreWithin self.new.names bound }
 
         // Want of memory.
@@ -156,23 +162,28 @@ impl<C: Payload> Refs<C> {
         ensures bodies { (number : ℕ) → IsSome (body_at self.new.names number) ↔ IsReached (without_id self.old.names id.number) number }
 
         // The identifier itself goes, and every other one that a caller or a task holds stays. What stays is held by
-        // whom it was and leads where it led.
+        // whom it was, names the body that it named and leads where it led.
         ensures gone { id_at self.new.names id.number ≡ None }
         ensures others { AreOthersLive self.old.names self.new.names id }
         ensures rest { AreRestAsBefore self.old.names self.new.names }
+        ensures reached { AreReached self.new.names }
         ensures numbered { (bound : ℕ) → AreWithin self.old.names bound → AreWithin self.new.names bound }
         ensures room { IsAtLeast self.old.room self.new.room }
     {
         self.parts.delete(id);
     }
 
-    /// The body that a live identifier names.
+    /// The body that a live identifier names. Its content is sound.
     pub fn look(&self, id: Id) -> &Body<C>
         requires { IsLive self.now.names id }
         ensures content { content_of self.now.names id ≡ Some result.now }
+        ensures sound { C.sound result.now }
         ensures tree { tree_of self.now.names (Held id) ≡ rooted result.now (each (tree_of self.now.names) (children_of self.now.names id)) }
     {
-        &self.parts.chunk_of(id).body
+        let body = &self.parts.chunk_of(id).body;
+        // This call is there for the proof: it tells that the content is sound.
+        let _ = body.content();
+        body
     }
 
     /// The number of the body that a live identifier names.
@@ -183,11 +194,13 @@ impl<C: Payload> Refs<C> {
         self.parts.name(id).body
     }
 
-    /// The identifier that the body of a live identifier holds for its child `j`, counted from 0, or null.
+    /// The identifier that the body of a live identifier holds for its child `j`, counted from 0, or null. It is live.
     pub fn child(&self, id: Id, j: u32) -> Ref
         requires live { IsLive self.now.names id }
         requires within { ForSome (content_of self.now.names id) (λ content. j < C.arity content) }
         ensures value { slice_get (children_of self.now.names id) j ≡ Some result }
+        ensures live { IsLiveRef self.now.names result }
+        ensures held { IsHeldByBodyOf self.now.names id result }
         ensures tree { tree_of self.now.names result ≡ child (tree_of self.now.names (Held id)) j }
     {
         self.parts.chunk_of(id).children.get(j)
@@ -220,7 +233,7 @@ impl<C: Payload> Refs<C> {
         ensures reached { AreReached self.now.names }
 
         // Where callers and tasks hold nothing, there is nothing.
-        ensures empty { ((number : ℕ) (naming : IdRecord) → id_at self.now.names number ≡ Some naming → IsOutside naming.holder → ⊥)
+        ensures empty { ((number : ℕ) (entry : IdRecord) → id_at self.now.names number ≡ Some entry → IsOutside entry.holder → ⊥)
             → self.now.names ≡ no_names }
 
         // And there is nothing exactly where no identifier is live.

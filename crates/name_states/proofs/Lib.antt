@@ -1,6 +1,9 @@
 pub mod Basics
+pub mod Copies
 pub mod Reaching
+pub mod Sound
 pub mod Swept
-pub mod Values
-pub mod WithoutContents
 pub mod SweptOnce
+pub mod Values
+pub mod Within
+pub mod WithoutContents

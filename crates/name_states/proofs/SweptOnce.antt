@@ -5,11 +5,12 @@ use Rattle.std.specs.FinMap as map
 use Rattle.name_states.specs.declared.holder.Holder.{Holder}
 use Rattle.name_states.specs.declared.holder.Holder.TheVariants.{Caller, Task, Body}
 use Rattle.name_states.specs.States.{NameState, IdRecord, id_at, body_at}
-use Rattle.name_states.specs.Steps.{without_id}
+use Rattle.name_states.specs.Steps.{IsOutside, copied, without_id}
 use Rattle.name_states.specs.Reached.{IsReached, Outside, Inside, IsHeldUp, swept}
 use Rattle.name_states.specs.Rules.{IsSound, AreReached}
-use Rattle.name_states.proofs.Basics.{same_options, removed_from, removed_other}
+use Rattle.name_states.proofs.Basics.{some_value, same_options, removed_from, removed_other}
 use Rattle.name_states.proofs.Reaching.{LeadsDown, sound-down, reached-from, reached-more, up-more, up_from_outside}
+use Rattle.name_states.proofs.Sound.{sound-copied}
 use Rattle.name_states.proofs.Swept.{id-left, id-kept, body-left, body-kept}
 
 module _ {C : Type 0} where
@@ -117,3 +118,42 @@ module _ {C : Type 0} where
       (λ q. same_options (body_at (swept names) q) (body_at names q)
       (λ body is. (body-left names q body is).0)
       (λ body is. body-kept names down q body is (reached q (ap is_some is))))
+
+  reached-swept : (names : NameState C) → LeadsDown names → (body : ℕ) → IsReached names body → IsReached (swept names) body
+  reached-swept names down body (Outside q entry is outside) =
+      Outside q entry (id-kept names down q entry is (up_from_outside names entry.holder outside)) outside
+  reached-swept names down body (Inside q entry holder is held reached) =
+      Inside q entry holder (id-kept names down q entry is (subst (IsHeldUp names) (sym held) reached)) held (reached-swept names down holder reached)
+
+  -- what a sweep leaves is reached
+  pub all-reached-swept : (arity : C → ℕ) (names : NameState C) → IsSound arity names → AreReached (swept names)
+  all-reached-swept arity names sound number there =
+      let body = some_value (body_at (swept names) number) there in
+      reached-swept names (sound-down arity names sound) number (body-left names number body.0 body.1).1
+
+  -- a sweep keeps the rules
+  pub sound-swept : (arity : C → ℕ) (names : NameState C) → IsSound arity names → IsSound arity (swept names)
+  sound-swept arity names sound =
+      let down = sound-down arity names sound in
+      record {
+        named = λ q entry is.
+            let was = id-left names q entry is in
+            let body = sound.named q entry was.0 in
+            (body.0, body-kept names down entry.body body.0 body.1 (reached-from names q entry was.0 was.1), body.2);
+        children = λ q body j id there at.
+            let was = body-left names q body there in
+            let by = sound.children q body j id was.0 at in
+            (by.0, id-kept names down id.number by.0 by.1 (subst (IsHeldUp names) (sym by.3) was.1), by.2, by.3, by.4);
+        held = λ q entry holder is held.
+            let was = id-left names q entry is in
+            let child = sound.held q entry holder was.0 held in
+            (child.0, child.1, body-kept names down holder child.0 child.2 (subst (IsHeldUp names) held was.1), child.3);
+        all_children = λ q body there. sound.all_children q body (body-left names q body there).0;
+      }
+
+  -- a copy of a live identifier keeps the rules
+  pub copy-keeps : (arity : C → ℕ) (names : NameState C) (from number : ℕ) (holder : Holder) → IsSound arity names → IsOutside holder → IsSome (id_at names from) → id_at names number ≡ None
+      → IsSound arity (copied names from number holder)
+  copy-keeps arity names from number holder sound outside live free =
+      let source = some_value (id_at names from) live in
+      sound-copied arity names from number holder source.0 sound outside source.1 free

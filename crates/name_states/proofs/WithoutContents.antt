@@ -1,6 +1,6 @@
 -- Leaving contents out commutes with every step and with sweeping, and keeps the rules.
 use Rattle.std.proofs.Common.{◌≡◌, ℕ, suc, zero, ◌+◌, Bool, List, [], ◌∷◌, Option, Some, None, max, refl, sym, ap, ◌∙◌}
-use Rattle.std.specs.Prelude.{slice_get, length}
+use Rattle.std.specs.Prelude.{◌↔◌, slice_get, length}
 use Rattle.std.specs.Option.{option_map}
 use Rattle.std.specs.List.{fold, list_any}
 use Rattle.std.specs.FinMap as map
@@ -9,8 +9,8 @@ use Rattle.cht_ids.specs.declared.refs.Ref.TheVariants.{Null, Id as Held}
 use Rattle.name_states.specs.declared.holder.Holder.{Holder}
 use Rattle.name_states.specs.declared.holder.Holder.TheVariants.{Body}
 use Rattle.name_states.specs.States.{NameState, IdRecord, BodyRecord, id_at, body_at}
-use Rattle.name_states.specs.Steps.{registered, copied, linked, linked_ref, with_id, with_body, with_naming, drawn_by, numbered}
-use Rattle.name_states.specs.Reached.{swept, is_reached, is_reached_within, greatest_body, is_kept, keeps_up, leads_up}
+use Rattle.name_states.specs.Steps.{registered, copied, linked, linked_ref, with_id, with_body, with_copy, drawn_by, numbered}
+use Rattle.name_states.specs.Reached.{IsReached, Outside, Inside, swept, is_reached, is_reached_within, greatest_body, is_kept, keeps_up, leads_up}
 use Rattle.name_states.specs.Rules.{IsSound}
 use Rattle.name_states.specs.WithoutContents.{without_content, without_contents}
 use Rattle.name_states.specs.Laws.{itself}
@@ -19,7 +19,7 @@ use Rattle.name_states.proofs.Values.{each_value_inserted, each_value_retained, 
 
 module _ {C : Type 0} (arity : C → ℕ) where
   found_copied : (names : NameState C) (number : ℕ) (holder : Holder) (found : Option IdRecord)
-      → without_contents arity (with_naming names number holder found) ≡ with_naming (without_contents arity names) number holder found
+      → without_contents arity (with_copy names number holder found) ≡ with_copy (without_contents arity names) number holder found
   found_copied names number holder None = refl
   found_copied names number holder (Some entry) = refl
 
@@ -107,3 +107,14 @@ module _ {C : Type 0} (arity : C → ℕ) where
         let was = was_there names number bare there in
         ap (λ (b : BodyRecord ℕ). length b.children) was.2 ∙ sound.all_children number was.0 was.1 ∙ ap (λ (b : BodyRecord ℕ). b.content) (sym was.2);
   }
+
+  reached_without : (names : NameState C) (body : ℕ) → IsReached names body → IsReached (without_contents arity names) body
+  reached_without names body (Outside q entry is outside) = Outside q entry is outside
+  reached_without names body (Inside q entry holder is held reached) = Inside q entry holder is held (reached_without names holder reached)
+
+  reached_with : (names : NameState C) (body : ℕ) → IsReached (without_contents arity names) body → IsReached names body
+  reached_with names body (Outside q entry is outside) = Outside q entry is outside
+  reached_with names body (Inside q entry holder is held reached) = Inside q entry holder is held (reached_with names holder reached)
+
+  pub same_reaching : (names : NameState C) (body : ℕ) → IsReached names body ↔ IsReached (without_contents arity names) body
+  same_reaching names body = (reached_without names body, reached_with names body)

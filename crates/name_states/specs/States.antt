@@ -92,9 +92,10 @@ module _ {C : Type 0} where
   abbrev pub children_of : NameState C → Id → List Ref
   children_of names id = children_in (body_record_of names id)
 
-  -- how many identifiers are live, and how many bodies there are
+  -- how many identifiers are live
   abbrev pub live_ids : NameState C → ℕ
   live_ids names = map.len names.ids
 
+  -- how many bodies there are
   abbrev pub live_bodies : NameState C → ℕ
   live_bodies names = map.len names.bodies

@@ -44,13 +44,13 @@ module _ {C : Type 0} where
   with_body names number body = record names { bodies = map.insert names.bodies number body }
 
   -- one more identifier for what another one names
-  abbrev pub with_naming : NameState C → ℕ → Holder → Option IdRecord → NameState C
-  with_naming names number holder None = names
-  with_naming names number holder (Some entry) = with_id names number (record entry { holder = holder })
+  abbrev pub with_copy : NameState C → ℕ → Holder → Option IdRecord → NameState C
+  with_copy names number holder None = names
+  with_copy names number holder (Some entry) = with_id names number (record entry { holder = holder })
 
   -- one more identifier of the body that a live identifier names, with a number and a holder of its own
   abbrev pub copied : NameState C → ℕ → ℕ → Holder → NameState C
-  copied names from number holder = with_naming names number holder (id_at names from)
+  copied names from number holder = with_copy names number holder (id_at names from)
 
   -- one more identifier, with the next number, for a child that is not null
   abbrev pub linked_ref : NameState C → ℕ → Holder → Ref → NameState C

@@ -1,5 +1,5 @@
 use Rattle.chunk_refs.specs.Inside.{names_of}
-use Rattle.chunk_refs.proofs.Within.{copy-within, copy-live}
+use Rattle.name_states.proofs.Within.{copy-within, copy-live}
 use Rattle.chunk_refs.proofs.parts.Parts.link.Goals as goal
 
 pub returns-in-Id-clause-within : goal.returns-in-Id-clause-within

@@ -2,8 +2,9 @@ use Rattle.std.proofs.Common.{sym, ap, ◌∙◌, ◌≡◌, arith, subst}
 use Rattle.name_states.specs.Steps.{numbered}
 use Rattle.name_states.specs.Rules.{AreWithin}
 use Rattle.chunk_refs.specs.Inside.{names_of, room_of, all_four, refs_of}
-use Rattle.chunk_refs.proofs.Within.{present-padded}
-use Rattle.chunk_refs.proofs.Registering.{own-padded, within-both, live-both, register-names, left-more}
+use Rattle.chunk_refs.proofs.Padded.{present-padded}
+use Rattle.chunk_refs.proofs.Registering.{own-padded, live-both, register-names, left-more}
+use Rattle.name_states.proofs.Within.{within-both}
 use Rattle.chunk_refs.proofs.parts.Parts.register.Goals as goal
 
 pub put-requires-clause-padded : goal.put-requires-clause-padded

@@ -4,11 +4,14 @@ use Rattle.chunk_refs.specs.Room.{Contents}
 use Rattle.name_states.specs.States.{holder_of, body_of}
 use Rattle.chunk_refs.specs.Trees.{tree_of}
 use Rattle.name_states.specs.Steps.{copied}
-use Rattle.name_states.specs.Rules.{IsSound, AreWithin}
-use Rattle.chunk_refs.specs.Others.{AreAllAsBefore}
+use Rattle.name_states.specs.Rules.{IsSound, AreWithin, AreReached}
+use Rattle.chunk_refs.specs.Others.{AreAllAsBefore, IsOnlyNew}
 use Rattle.chunk_refs.specs.Inside.{names_of}
 use Rattle.chunk_refs.proofs.Calls.{copy-sound, copy-tree, copy-held, copy-others, copy-body}
-use Rattle.chunk_refs.proofs.Within.{within-copied}
+use Rattle.name_states.proofs.Within.{within-copied}
+use Rattle.chunk_refs.proofs.Ending.{all-named-once}
+use Rattle.chunk_refs.proofs.Fresh.{copy-only-new}
+use Rattle.name_states.proofs.Reaching.{all-reached}
 use Rattle.chunk_refs.proofs.refs.Refs.copy.Goals as goal
 
 -- what the call makes of the names
@@ -20,6 +23,25 @@ made g c =
 -- the rules that held before
 before : (g : _) (c : goal.After-add g) → IsSound g.C.Payload.arity c.args.self.now.names
 before g c = subst (λ (v : Contents g.row.C.Denot). IsSound g.C.Payload.arity v.names) c.self.view_is c.self.invariant.1
+
+-- the rules that hold afterwards
+after : (g : _) (c : goal.After-add g) → IsSound g.C.Payload.arity (names_of c.add.new.self)
+after g c =
+    subst (λ names. IsSound g.C.Payload.arity names) (sym (made g c)) (copy-sound g.C.Payload.arity c.args.self.now.names c.args.id c.args.number c.args.holder (before g c) c.requires.holder c.requires.live c.requires.free)
+
+pub returns-clause-only : goal.returns-clause-only
+returns-clause-only g c =
+    subst (λ names. IsOnlyNew c.args.self.now.names names (record { owner = c.args.id.owner; number = c.args.number })) (sym (made g c))
+    (copy-only-new c.args.self.now.names c.args.id c.args.number c.args.holder c.requires.live)
+
+pub returns-clause-reached : goal.returns-clause-reached
+returns-clause-reached g c =
+    all-reached g.C.Payload.arity (names_of c.add.new.self) (after g c) (all-named-once c.add.new.self c.add.ensures.chain)
+
+pub returns-in_err-reserve_ids-clause-reached : goal.returns-in_err-reserve_ids-clause-reached
+returns-in_err-reserve_ids-clause-reached g c =
+    let parts = c.self.inside.parts in
+    subst (λ names. AreReached names) (sym c.reserve_ids.ensures.names) (all-reached g.C.Payload.arity (names_of parts) c.self.invariant.1 (all-named-once parts c.self.invariant.0))
 
 pub invariant_of-self-2 : goal.invariant_of-self-2
 invariant_of-self-2 g c = (

@@ -7,6 +7,8 @@ use Rattle.chunk_refs.specs.Others.{AreOthersLive, AreRestAsBefore}
 use Rattle.name_states.specs.Rules.{IsSound, AreWithin}
 use Rattle.chunk_refs.specs.Inside.{names_of}
 use Rattle.chunk_refs.proofs.Calls.{delete-gone, delete-others, delete-rest, delete-within, delete-bodies}
+use Rattle.chunk_refs.proofs.Ending.{all-named-once}
+use Rattle.name_states.proofs.Reaching.{all-reached}
 use Rattle.chunk_refs.proofs.refs.Refs.delete.Goals as goal
 
 pub returns-clause-gone : goal.returns-clause-gone
@@ -23,6 +25,10 @@ returns-clause-rest g c =
     let sound = subst (λ names. IsSound g.C.Payload.arity names) c.delete.ensures.names c.delete.ensures.sound in
     subst (λ (v : Contents g.row.C.Denot). AreRestAsBefore v.names (names_of c.delete.new.self)) c.self.view_is
     (subst (λ names. AreRestAsBefore (names_of c.self.inside.parts) names) (sym c.delete.ensures.names) (delete-rest g.C.Payload.arity (names_of c.self.inside.parts) c.args.id.number sound))
+
+pub returns-clause-reached : goal.returns-clause-reached
+returns-clause-reached g c =
+    all-reached g.C.Payload.arity (names_of c.delete.new.self) c.delete.ensures.sound (all-named-once c.delete.new.self c.delete.ensures.chain)
 
 pub returns-clause-numbered : goal.returns-clause-numbered
 returns-clause-numbered g c = λ bound within.

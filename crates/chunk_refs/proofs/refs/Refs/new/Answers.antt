@@ -1,6 +1,6 @@
 use Rattle.std.proofs.Common.{sym, subst}
 use Rattle.name_states.specs.Rules.{IsSound}
-use Rattle.chunk_refs.proofs.Sound.{sound-none}
+use Rattle.name_states.proofs.Sound.{sound-none}
 use Rattle.chunk_refs.proofs.Calls.{none-within}
 use Rattle.chunk_refs.proofs.refs.Refs.new.Goals as goal
 

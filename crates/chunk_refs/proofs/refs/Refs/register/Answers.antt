@@ -5,13 +5,16 @@ use Rattle.chunk_refs.specs.Room.{Contents, spare_of}
 use Rattle.name_states.specs.States.{AreLive, holder_of, body_of, children_of}
 use Rattle.chunk_refs.specs.Trees.{tree_of}
 use Rattle.name_states.specs.Steps.{registered, present, numbered}
-use Rattle.name_states.specs.Rules.{IsSound, AreWithin}
-use Rattle.chunk_refs.specs.Others.{AreAllAsBefore}
+use Rattle.name_states.specs.Rules.{IsSound, AreWithin, AreReached}
+use Rattle.chunk_refs.specs.Others.{AreAllAsBefore, IsOnlyNew}
 use Rattle.chunk_refs.specs.Inside.{names_of, all_four, refs_of}
 use Rattle.chunk_refs.proofs.Calls.{register-others, register-held, register-body, register-children}
 use Rattle.chunk_refs.proofs.Grown.{tree-registered}
-use Rattle.chunk_refs.proofs.Sound.{sound-registered, registered-within}
-use Rattle.chunk_refs.proofs.Within.{live-padded, present-padded}
+use Rattle.name_states.proofs.Sound.{sound-registered, registered-within}
+use Rattle.chunk_refs.proofs.Padded.{live-padded, present-padded}
+use Rattle.chunk_refs.proofs.Ending.{all-named-once}
+use Rattle.chunk_refs.proofs.Fresh.{register-only-new}
+use Rattle.name_states.proofs.Reaching.{all-reached}
 use Rattle.chunk_refs.proofs.refs.Refs.register.Goals as goal
 
 -- what the call makes of the names
@@ -38,6 +41,27 @@ register-requires-clause-live g c = λ κs lives.
     let same = c.reserve.ensures.names ∙ ap (λ (v : Contents g.row.C.Denot). v.names) c.self.view_is in
     live-padded (names_of c.reserve.new.self) c.of-children.result.count (all_four c.of-children.result) c.of-children.ensures.padded
     (subst (λ names. AreLive names (refs_of c.of-children.result)) (sym same) (subst (λ refs. AreLive c.args.self.now.names refs) (sym c.of-children.ensures.refs) c.requires.live))
+
+-- the rules that hold afterwards
+after : (g : _) (c : goal.After-register g) → IsSound g.C.Payload.arity (names_of c.register.new.self)
+after g c =
+    subst (λ names. IsSound g.C.Payload.arity names) (sym (made g c))
+    (sound-registered g.C.Payload.arity c.args.self.now.names c.args.counter.now c.args.holder c.args.worker c.args.body c.args.children.now (before g c) c.requires.numbered c.requires.holder c.requires.live c.requires.arity)
+
+pub returns-clause-only : goal.returns-clause-only
+returns-clause-only g c =
+    subst (λ (id : Id). let names = names_of c.register.new.self in IsOnlyNew c.args.self.now.names names id) (sym c.register.ensures.id)
+    (subst (λ names. let id : Id = record { owner = c.args.worker; number = c.args.counter.now + 2 } in IsOnlyNew c.args.self.now.names names id) (sym (made g c))
+    (register-only-new c.args.self.now.names c.args.counter.now c.args.holder c.args.worker c.args.body c.args.children.now c.requires.numbered c.requires.live))
+
+pub returns-clause-reached : goal.returns-clause-reached
+returns-clause-reached g c =
+    all-reached g.C.Payload.arity (names_of c.register.new.self) (after g c) (all-named-once c.register.new.self c.register.ensures.chain)
+
+pub returns-in_err-reserve-clause-reached : goal.returns-in_err-reserve-clause-reached
+returns-in_err-reserve-clause-reached g c =
+    let parts = c.self.inside.parts in
+    subst (λ names. AreReached names) (sym c.reserve.ensures.names) (all-reached g.C.Payload.arity (names_of parts) c.self.invariant.1 (all-named-once parts c.self.invariant.0))
 
 pub invariant_of-self-2 : goal.invariant_of-self-2
 invariant_of-self-2 g c = (

@@ -4,7 +4,7 @@ use Rattle.name_states.specs.Rules.{AreReached, IsSound}
 use Rattle.chunk_refs.specs.Inside.{names_of}
 use Rattle.chunk_refs.proofs.Ending.{all-named-once}
 use Rattle.name_states.proofs.Reaching.{all-reached}
-use Rattle.chunk_refs.proofs.Sound.{nothing-left}
+use Rattle.name_states.proofs.Sound.{nothing-left}
 use Rattle.chunk_refs.proofs.Calls.{none-left, none-counted}
 use Rattle.chunk_refs.proofs.refs.Refs.rules.Goals as goal
 

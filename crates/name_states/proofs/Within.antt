@@ -1,5 +1,5 @@
 -- Numbers of names stay below what was drawn, and what is live stays live.
-use Rattle.std.proofs.Common.{◌≡◌, ℕ, zero, suc, ◌+◌, ◌<◌, ◌≤◌, true, false, cond, inl, inr, List, [], ◌∷◌, take, drop, Option, Some, None, is_some, IsSome, nat_eq, refl, sym, ap, subst, ◌∙◌, arith}
+use Rattle.std.proofs.Common.{◌≡◌, ℕ, ◌+◌, ◌<◌, ◌≤◌, true, false, cond, inl, inr, List, [], ◌∷◌, Option, Some, None, is_some, IsSome, nat_eq, refl, sym, ap, subst, ◌∙◌, arith}
 use Rattle.std.specs.Ordering.{nat_cmp}
 use Rattle.std.specs.FinMap as map
 use Rattle.cht_ids.specs.declared.refs.Id.{Id}
@@ -7,9 +7,8 @@ use Rattle.cht_ids.specs.declared.refs.Ref.{Ref}
 use Rattle.cht_ids.specs.declared.refs.Ref.TheVariants.{Null, Id as Held}
 use Rattle.name_states.specs.declared.holder.Holder.{Holder}
 use Rattle.name_states.specs.States.{NameState, IdRecord, BodyRecord, id_at, body_at, record_of, owned_by, IsLive, IsLiveRef, AreLive}
-use Rattle.name_states.specs.Steps.{with_id, with_body, with_naming, copied, linked_ref, linked, drawn_by, present, numbered, numbered_ref}
+use Rattle.name_states.specs.Steps.{with_id, with_body, with_copy, copied, linked_ref, drawn_by}
 use Rattle.name_states.specs.Rules.{AreWithin}
-use Rattle.chunk_refs.specs.Inside.{AreNull}
 use Rattle.name_states.proofs.Basics.{none_not_some, some_value, same_some, same_from_test, test_same, inserted_from, inserted_other}
 
 none_past : {X : Type 0} (found : Option X) (number bound : ℕ) → (IsSome found → number ≤ bound) → bound < number → found ≡ None
@@ -58,7 +57,7 @@ module _ {C : Type 0} where
   pub within-body : (names : NameState C) (number : ℕ) (body : BodyRecord C) (bound : ℕ) → AreWithin names bound → number ≤ bound → AreWithin (with_body names number body) bound
   within-body names number body bound within low = record { ids = within.ids; bodies = inserted-within names.bodies number body bound within.bodies low }
 
-  within-naming : (names : NameState C) (number : ℕ) (holder : Holder) (found : Option IdRecord) (bound : ℕ) → AreWithin names bound → number ≤ bound → AreWithin (with_naming names number holder found) bound
+  within-naming : (names : NameState C) (number : ℕ) (holder : Holder) (found : Option IdRecord) (bound : ℕ) → AreWithin names bound → number ≤ bound → AreWithin (with_copy names number holder found) bound
   within-naming names number holder None bound within low = within
   within-naming names number holder (Some naming) bound within low = within-id names number (record naming { holder = holder }) bound within low
 
@@ -86,7 +85,7 @@ module _ {C : Type 0} where
   all-live-kept names more (r ∷ refs) kept live = (live-kept names more r kept live.0, all-live-kept names more refs kept live.1)
 
   kept-naming : (names : NameState C) (number : ℕ) (holder : Holder) (found : Option IdRecord) → id_at names number ≡ None
-      → (q : ℕ) (naming : IdRecord) → id_at names q ≡ Some naming → id_at (with_naming names number holder found) q ≡ Some naming
+      → (q : ℕ) (naming : IdRecord) → id_at names q ≡ Some naming → id_at (with_copy names number holder found) q ≡ Some naming
   kept-naming names number holder None free q naming is = is
   kept-naming names number holder (Some from) free q naming is = naming-kept names number (record from { holder = holder }) q naming free is
 
@@ -103,6 +102,26 @@ module _ {C : Type 0} where
   pub live-number : (names : NameState C) (id : Id) → IsLive names id → (naming : IdRecord) × (id_at names id.number ≡ Some naming) × (naming.owner ≡ id.owner)
   live-number names id live = behind_owner id.owner (id_at names id.number) live
 
+  -- all that some names have, others have too
+  pub record AreMore (names more : NameState C) : Type 0 where
+    pub ids : (number : ℕ) (naming : IdRecord) → id_at names number ≡ Some naming → id_at more number ≡ Some naming
+    pub bodies : (number : ℕ) (body : BodyRecord C) → body_at names number ≡ Some body → body_at more number ≡ Some body
+
+  -- a body with its first identifier
+  abbrev pub with_both : NameState C → ℕ → ℕ → Holder → ℕ → C → List Ref → NameState C
+  with_both names number name holder worker content refs =
+      with_id (with_body names number (record { owner = worker; content = content; children = refs })) name (record { owner = worker; body = number; holder = holder })
+
+  pub within-both : (names : NameState C) (drawn number name : ℕ) (holder : Holder) (worker : ℕ) (content : C) (refs : List Ref) → AreWithin names drawn → number ≡ drawn + 1 → name ≡ drawn + 2
+      → AreWithin (with_both names number name holder worker content refs) name
+  within-both names drawn number name holder worker content refs within n m =
+      within-id _ name _ name (within-body names number _ name (within-more names drawn name within (omega arith)) (omega arith)) (omega arith)
+
+  pub kept-both : (names : NameState C) (drawn number name : ℕ) (holder : Holder) (worker : ℕ) (content : C) (refs : List Ref) → AreWithin names drawn → name ≡ drawn + 2
+      → (q : ℕ) (naming : IdRecord) → id_at names q ≡ Some naming → id_at (with_both names number name holder worker content refs) q ≡ Some naming
+  kept-both names drawn number name holder worker content refs within m q naming is =
+      naming-kept names name (record { owner = worker; body = number; holder = holder }) q naming (unnamed-next names drawn name within (omega arith)) is
+
 -- what an identifier names is what its number names, with its owner
 pub naming-number : {C : Type 0} (names : NameState C) (id : Id) (naming : IdRecord) → record_of names id ≡ Some naming → (id_at names id.number ≡ Some naming) × (naming.owner ≡ id.owner)
 naming-number names id naming is =
@@ -112,38 +131,6 @@ naming-number names id naming is =
 
 pub number-naming : {C : Type 0} (names : NameState C) (id : Id) (naming : IdRecord) → id_at names id.number ≡ Some naming → naming.owner ≡ id.owner → record_of names id ≡ Some naming
 number-naming names id naming is owner = ap (owned_by id.owner) is ∙ owned-same id.owner naming owner
-
--- what stands past the last child says nothing
-pub present-padded : (count : ℕ) (refs : List Ref) → AreNull (drop count refs) → present refs ≡ present (take count refs)
-present-padded zero [] null = refl
-present-padded zero (r ∷ refs) null = omega (arith, ap drawn_by null.0, present-padded zero refs null.1)
-present-padded (suc count) [] null = refl
-present-padded (suc count) (r ∷ refs) null = ap (λ n. drawn_by r + n) (present-padded count refs null)
-
-pub live-padded : {C : Type 0} (names : NameState C) (count : ℕ) (refs : List Ref) → AreNull (drop count refs) → AreLive names (take count refs) → AreLive names refs
-live-padded names zero [] null live = tt
-live-padded names zero (r ∷ refs) null live = (subst (IsLiveRef names) (sym null.0) tt, live-padded names zero refs null.1 tt)
-live-padded names (suc count) [] null live = tt
-live-padded names (suc count) (r ∷ refs) null live = (live.0, live-padded names count refs null live.1)
-
-pub linked-padded : {C : Type 0} (names : NameState C) (drawn : ℕ) (holder : Holder) (count : ℕ) (refs : List Ref) → AreNull (drop count refs) → linked names drawn holder refs ≡ linked names drawn holder (take count refs)
-linked-padded names drawn holder zero [] null = refl
-linked-padded names drawn holder zero (Null ∷ refs) null = linked-padded names (drawn + 0) holder zero refs null.1
-linked-padded names drawn holder zero (Held id ∷ refs) null = absurd (let clash : Held id ≡ Null = null.0 in cc)
-linked-padded names drawn holder (suc count) [] null = refl
-linked-padded names drawn holder (suc count) (r ∷ refs) null = linked-padded (linked_ref names drawn holder r) (drawn + drawn_by r) holder count refs null
-
-pub numbered-padded : (drawn count : ℕ) (refs : List Ref) → AreNull (drop count refs) → AreNull (drop count (numbered drawn refs))
-numbered-padded drawn zero [] null = tt
-numbered-padded drawn zero (Null ∷ refs) null = (refl, numbered-padded (drawn + 0) zero refs null.1)
-numbered-padded drawn zero (Held id ∷ refs) null = absurd (let clash : Held id ≡ Null = null.0 in cc)
-numbered-padded drawn (suc count) [] null = tt
-numbered-padded drawn (suc count) (r ∷ refs) null = numbered-padded (drawn + drawn_by r) count refs null
-
-pub numbered-take : (drawn count : ℕ) (refs : List Ref) → take count (numbered drawn refs) ≡ numbered drawn (take count refs)
-numbered-take drawn zero refs = refl
-numbered-take drawn (suc count) [] = refl
-numbered-take drawn (suc count) (r ∷ refs) = ap (λ rest. numbered_ref drawn r ∷ rest) (numbered-take (drawn + drawn_by r) count refs)
 
 -- after a copy with the next number
 pub copy-within : {C : Type 0} (names after : NameState C) (drawn from : ℕ) (holder : Holder) → AreWithin names drawn → after ≡ copied names from (drawn + 1) holder → AreWithin after (drawn + 1)

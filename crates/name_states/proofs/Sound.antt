@@ -10,14 +10,12 @@ use Rattle.cht_ids.specs.declared.refs.Ref.TheVariants.{Null, Id as Held}
 use Rattle.name_states.specs.declared.holder.Holder.{Holder}
 use Rattle.name_states.specs.declared.holder.Holder.TheVariants.{Body}
 use Rattle.name_states.specs.States.{NameState, IdRecord, BodyRecord, id_at, body_at, AreLive, no_names}
-use Rattle.name_states.specs.Steps.{with_id, with_naming, copied, registered, numbered, present, without_id, IsOutside}
+use Rattle.name_states.specs.Steps.{with_id, with_copy, copied, registered, numbered, present, without_id, IsOutside}
 use Rattle.name_states.specs.Reached.{IsReached, Outside, Inside}
 use Rattle.name_states.specs.Rules.{IsSound, AreWithin, AreReached, LeadsToBody}
 use Rattle.name_states.proofs.Basics.{same_some, none_not_some, same_options, inserted_from, inserted_here, inserted_other, removed_from, removed_other}
-use Rattle.chunk_refs.proofs.Copies.{AreCopies, IsCopyAmong, linked-keeps, linked-copies, linked-from, linked-within, bodies-linked, length-numbered}
-use Rattle.chunk_refs.proofs.Registering.{with_both, within-both, kept-both}
-use Rattle.chunk_refs.proofs.Trees.{AreMore}
-use Rattle.chunk_refs.proofs.Within.{naming-kept}
+use Rattle.name_states.proofs.Copies.{AreCopies, IsCopyAmong, linked-keeps, linked-copies, linked-from, linked-within, bodies-linked, length-numbered}
+use Rattle.name_states.proofs.Within.{with_both, within-both, kept-both, AreMore, naming-kept}
 
 not-outside : (holder : Holder) (body : ℕ) → IsOutside holder → holder ≡ Body body → ⊥
 not-outside holder body outside held = subst IsOutside held outside
@@ -104,13 +102,13 @@ module _ {C : Type 0} where
   }
 
   -- where an identifier comes from
-  naming-from : (names : NameState C) (drawn : ℕ) (holder : Holder) (worker : ℕ) (content : C) (refs : List Ref) → AreWithin names drawn → AreLive names refs
+  pub naming-from : (names : NameState C) (drawn : ℕ) (holder : Holder) (worker : ℕ) (content : C) (refs : List Ref) → AreWithin names drawn → AreLive names refs
       → (q : ℕ) (naming : IdRecord) → id_at (registered names drawn holder worker content refs) q ≡ Some naming
-      → (id_at names q ≡ Some naming) ⊎ ((naming ≡ record { owner = worker; body = drawn + 1; holder = holder }) ⊎ IsCopyAmong names (Body (drawn + 1)) (numbered (drawn + 2) refs) q naming)
+      → (id_at names q ≡ Some naming) ⊎ (((q ≡ drawn + 2) × (naming ≡ record { owner = worker; body = drawn + 1; holder = holder })) ⊎ IsCopyAmong names (Body (drawn + 1)) (numbered (drawn + 2) refs) q naming)
   naming-from names drawn holder worker content refs within live q naming is =
       elim (linked-from names (with_first names drawn holder worker content refs) (drawn + 2) (Body (drawn + 1)) refs (first-within names drawn holder worker content refs within) (first-kept names drawn holder worker content refs within) live q naming is) [
         | inl was ↦ elim (inserted_from names.ids (drawn + 2) q (record { owner = worker; body = drawn + 1; holder = holder }) naming was) [
-          | inl h ↦ inr (inl h.1)
+          | inl h ↦ inr (inl (h.0, h.1))
           | inr h ↦ inl h.1
         ]
         | inr copy ↦ inr (inr copy)
@@ -136,7 +134,7 @@ module _ {C : Type 0} where
         named = λ q naming is. elim (naming-from names drawn holder worker content refs within live q naming is) [
           | inl was ↦ leads-kept names after naming naming more.bodies (sound.named q naming was) refl refl
           | inr new ↦ elim new [
-            | inl first ↦ (_, ap (λ (n : IdRecord). body_at after n.body) first ∙ new-body names drawn holder worker content refs, sym (ap (λ (n : IdRecord). n.owner) first))
+            | inl first ↦ (_, ap (λ (n : IdRecord). body_at after n.body) first.1 ∙ new-body names drawn holder worker content refs, sym (ap (λ (n : IdRecord). n.owner) first.1))
             | inr copy ↦ leads-kept names after copy.0 naming more.bodies (sound.named copy.1 copy.0 copy.3) (ap (λ (n : IdRecord). n.body) copy.4) (ap (λ (n : IdRecord). n.owner) copy.4)
           ]
         ];
@@ -154,7 +152,7 @@ module _ {C : Type 0} where
               let child = sound.held q naming h was held in
               (child.0, child.1, more.bodies h child.0 child.2, child.3)
           | inr new ↦ elim new [
-            | inl first ↦ absurd (not-outside holder h outside (sym (ap (λ (n : IdRecord). n.holder) first) ∙ held))
+            | inl first ↦ absurd (not-outside holder h outside (sym (ap (λ (n : IdRecord). n.holder) first.1) ∙ held))
             | inr copy ↦
                 let same : h ≡ drawn + 1 = same_body h (drawn + 1) (sym held ∙ ap (λ (n : IdRecord). n.holder) copy.4) in (
                   _,
@@ -191,7 +189,7 @@ module _ {C : Type 0} where
   pub sound-copied : (arity : C → ℕ) (names : NameState C) (from number : ℕ) (holder : Holder) (source : IdRecord) → IsSound arity names → IsOutside holder → id_at names from ≡ Some source → id_at names number ≡ None
       → IsSound arity (copied names from number holder)
   sound-copied arity names from number holder source sound outside is free =
-      subst (λ found. IsSound arity (with_naming names number holder found)) (sym is) (sound-named arity names from number holder source sound outside is free)
+      subst (λ found. IsSound arity (with_copy names number holder found)) (sym is) (sound-named arity names from number holder source sound outside is free)
 
   -- one identifier less, that a caller or a task held
   pub sound-without : (arity : C → ℕ) (names : NameState C) (number : ℕ) (gone : IdRecord) → IsSound arity names → id_at names number ≡ Some gone → IsOutside gone.holder → IsSound arity (without_id names number)

@@ -5,10 +5,10 @@ use Rattle.cht_ids.specs.declared.refs.Ref.{Ref}
 use Rattle.cht_ids.specs.declared.refs.Ref.TheVariants.{Null, Id as Held}
 use Rattle.name_states.specs.declared.holder.Holder.{Holder}
 use Rattle.name_states.specs.States.{NameState, IdRecord, id_at, AreLive}
-use Rattle.name_states.specs.Steps.{with_naming, copied, linked_ref, linked, drawn_by, present, numbered}
+use Rattle.name_states.specs.Steps.{with_copy, copied, linked_ref, linked, drawn_by, present, numbered}
 use Rattle.name_states.specs.Rules.{AreWithin}
 use Rattle.name_states.proofs.Basics.{same_some, inserted_from, inserted_here}
-use Rattle.chunk_refs.proofs.Within.{within-linked_ref, linked_ref-keeps, live-number, within-more}
+use Rattle.name_states.proofs.Within.{within-linked_ref, linked_ref-keeps, live-number, within-more}
 
 module _ {C : Type 0} where
   -- what copies name: the same as the children, held by the new body
@@ -33,20 +33,20 @@ module _ {C : Type 0} where
       within-more (linked names drawn holder (r ∷ refs)) (drawn + drawn_by r + present refs) (drawn + (drawn_by r + present refs))
       (linked-within (linked_ref names drawn holder r) (drawn + drawn_by r) holder refs (within-linked_ref names drawn holder r within)) (omega arith)
 
-  pub bodies-with_naming : (names : NameState C) (number : ℕ) (holder : Holder) (found : Option IdRecord) → (with_naming names number holder found).bodies ≡ names.bodies
-  bodies-with_naming names number holder None = refl
-  bodies-with_naming names number holder (Some naming) = refl
+  pub bodies-with_copy : (names : NameState C) (number : ℕ) (holder : Holder) (found : Option IdRecord) → (with_copy names number holder found).bodies ≡ names.bodies
+  bodies-with_copy names number holder None = refl
+  bodies-with_copy names number holder (Some naming) = refl
 
   pub bodies-linked : (names : NameState C) (drawn : ℕ) (holder : Holder) (refs : List Ref) → (linked names drawn holder refs).bodies ≡ names.bodies
   bodies-linked names drawn holder [] = refl
   bodies-linked names drawn holder (Null ∷ refs) = bodies-linked names (drawn + 0) holder refs
   bodies-linked names drawn holder (Held id ∷ refs) =
-      bodies-linked (copied names id.number (drawn + 1) holder) (drawn + 1) holder refs ∙ bodies-with_naming names (drawn + 1) holder (id_at names id.number)
+      bodies-linked (copied names id.number (drawn + 1) holder) (drawn + 1) holder refs ∙ bodies-with_copy names (drawn + 1) holder (id_at names id.number)
 
   -- a copy is there under its number
   pub copied-here : (names : NameState C) (from number : ℕ) (holder : Holder) (naming : IdRecord) → id_at names from ≡ Some naming → id_at (copied names from number holder) number ≡ Some (record naming { holder = holder })
   copied-here names from number holder naming is =
-      ap (λ found. id_at (with_naming names number holder found) number) is ∙ inserted_here names.ids number number (record naming { holder = holder }) (record naming { holder = holder }) refl refl
+      ap (λ found. id_at (with_copy names number holder found) number) is ∙ inserted_here names.ids number number (record naming { holder = holder }) (record naming { holder = holder }) refl refl
 
   pub linked-copies : (base names : NameState C) (drawn : ℕ) (holder : Holder) (refs : List Ref) → AreWithin names drawn
       → ((q : ℕ) (naming : IdRecord) → id_at base q ≡ Some naming → id_at names q ≡ Some naming)
@@ -75,7 +75,7 @@ module _ {C : Type 0} where
       (source : IdRecord) × (from : ℕ) × (j : ℕ) × (id_at before from ≡ Some source) × (naming ≡ record source { holder = holder })
       × (slice_get own j ≡ Some (Held (record { owner = source.owner; number = number })))
 
-  copied-from : (names : NameState C) (number : ℕ) (holder : Holder) (found : Option IdRecord) (q : ℕ) (naming : IdRecord) → id_at (with_naming names number holder found) q ≡ Some naming
+  pub copied-from : (names : NameState C) (number : ℕ) (holder : Holder) (found : Option IdRecord) (q : ℕ) (naming : IdRecord) → id_at (with_copy names number holder found) q ≡ Some naming
       → (id_at names q ≡ Some naming) ⊎ ((source : IdRecord) × (found ≡ Some source) × (naming ≡ record source { holder = holder }) × (q ≡ number))
   copied-from names number holder None q naming is = inl is
   copied-from names number holder (Some source) q naming is =
