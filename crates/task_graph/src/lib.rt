@@ -1,0 +1,4 @@
+//! The unfinished tasks of a core: which of them are ready, and who awaits whose output.
+#![tactic(auto)]
+
+mod entries;
