@@ -1,12 +1,12 @@
 -- How the inputs that await a task are linked.
-use Rattle.std.specs.Prelude.{◌≡◌, ℕ, ◌<◌, ◌≤◌, ◌^◌, slice_get, ◌⊎◌, Option, None, Some}
+use Rattle.std.specs.Prelude.{◌≡◌, ℕ, ◌<◌, ◌≤◌, ◌^◌, cond, nat_eq, ◌⊎◌, Option, None, Some}
 use Rattle.std.specs.Option.{option_map}
 use Rattle.task_graph.specs.declared.entries.Spot.{Spot}
 use Rattle.task_graph.specs.declared.entries.Link.{Link}
 use Rattle.task_graph.specs.declared.entries.Entry.{Entry}
 use Rattle.task_graph.specs.declared.entries.Place.{Place}
 use Rattle.task_graph.specs.declared.entries.Place.TheVariants.{Known, Awaits}
-use Rattle.task_graph.specs.Inside.{inputs_of}
+use Rattle.task_graph.specs.Inside.{place_at, is_spot}
 
 -- above a number, if one is given
 abbrev pub Above : Option ℕ → ℕ → Type 0
@@ -38,6 +38,14 @@ link_of (Some (Awaits link)) = Some link
 abbrev pub row_of : (Spot → Option Link) → Spot → Option (ℕ × ℕ)
 row_of links spot = option_map (λ link. (link.task, link.number)) (links spot)
 
+-- a link with another next one, where it is that of an input
+abbrev pub with_next : Spot → Spot → Option Spot → Link → Link
+with_next at spot next link = record link { next = cond (is_spot at spot) next link.next }
+
+-- a head with another first and last, where it is that of a task
+abbrev pub with_ends : ℕ → ℕ → Option Spot → Option Spot → Head → Head
+with_ends at task first last head = record head { first = cond (nat_eq at task) first head.first; last = cond (nat_eq at task) last head.last }
+
 -- the last of a list: an input that awaits the task and has no next one, or nothing where the list is empty
 abbrev pub IsEnd : (Spot → Option Link) → ℕ → Option Spot → Option Spot → Type 0
 IsEnd links task first None = first ≡ None
@@ -61,18 +69,13 @@ module _ {K : Type 0} where
   abbrev pub head_of : Entry K → Head
   head_of entry = record { caller = entry.caller; runner = entry.runner; asked = entry.asked; first = entry.first; last = entry.last }
 
-  -- the input at a place of an entry, if there is one
-  abbrev pub place_in : Option (Entry K) → ℕ → Option Place
-  place_in None place = None
-  place_in (Some entry) place = slice_get (inputs_of entry) place
-
   -- the head of each task's list
   abbrev pub head_at : (ℕ → Option (Entry K)) → ℕ → Option Head
   head_at entries task = option_map head_of (entries task)
 
   -- the link of each awaiting input
   abbrev pub link_at : (ℕ → Option (Entry K)) → Spot → Option Link
-  link_at entries spot = link_of (place_in (entries spot.task) spot.place)
+  link_at entries spot = link_of (place_at entries spot)
 
 -- what follows an awaiting input of the list with this number and next one, or heads the list: where a new number would stand
 abbrev pub IsGap : (ℕ → Option Head) → (Spot → Option Link) → ℕ → ℕ → Option Spot → Option Spot → Type 0

@@ -1,6 +1,9 @@
 // The entries of tasks, and the lists of those that await each.
-ghost use Rattle.std.specs.Prelude.{◌≡◌, ◌<◌, ◌^◌, ℕ, slice_set, Some, None, IsSome};
-ghost use Rattle.task_graph.specs.Inside.{entries_at, put_in, IsSameSize};
+ghost use Rattle.std.specs.Prelude.{◌≡◌, ℕ, cond, Some, IsSome};
+ghost use Rattle.std.specs.Option.{option_map};
+ghost use Rattle.task_graph.specs.declared.entries.Spot.{Spot as AnySpot};
+ghost use Rattle.task_graph.specs.Inside.{entries_at, put_in, IsSameSize, shown_place, place_at, is_spot, with_input, shown_at, station_at};
+ghost use Rattle.task_graph.specs.Weave.{head_at, link_at, with_next, with_ends};
 
 
 use cht_ids::Ref;
@@ -59,8 +62,8 @@ impl<K: Copy> Entries<K> {
         *self.tasks.get(&task).unwrap()
     }
 
-    /// Writes the entry of a task.
-    pub fn put(&mut self, task: u128, entry: Entry<K>)
+    // Writes the entry of a task.
+    fn put(&mut self, task: u128, entry: Entry<K>)
         requires { IsSome (entries_at self.old task) }
         ensures at { (q : ℕ) → entries_at self.new q ≡ put_in task entry (entries_at self.old) q }
         ensures size { IsSameSize self.old self.new }
@@ -69,11 +72,74 @@ impl<K: Copy> Entries<K> {
             *place = entry;
         }
     }
-}
 
-impl<K: Copy> Entries<K> {
-    pub fn probe(&self)
-        ensures { ℕ }
+    // The input at a place.
+    fn input(&self, spot: Spot) -> Place
+        requires { IsSome (place_at (entries_at self.now) spot) }
+        ensures { place_at (entries_at self.now) spot ≡ Some result }
     {
+        let entry = self.get(spot.task);
+        entry.places[spot.place as usize]
+    }
+
+    // The link of an input, where it awaits a task.
+    fn awaited(&self, spot: Spot) -> Option<Link>
+        requires { IsSome (place_at (entries_at self.now) spot) }
+        ensures { result ≡ link_at (entries_at self.now) spot }
+    {
+        match self.input(spot) {
+            Place::Known(_) => None,
+            Place::Awaits(link) => Some(link),
+        }
+    }
+
+    /// The link of an awaiting input.
+    pub fn link(&self, spot: Spot) -> Link
+        requires { IsSome (link_at (entries_at self.now) spot) }
+        ensures { link_at (entries_at self.now) spot ≡ Some result }
+    {
+        self.awaited(spot).unwrap()
+    }
+
+    // Writes the input at a place.
+    fn set_place(&mut self, spot: Spot, place: Place)
+        requires { IsSome (place_at (entries_at self.old) spot) }
+        ensures places { (p : AnySpot) → place_at (entries_at self.new) p ≡ cond (is_spot p spot) (Some place) (place_at (entries_at self.old) p) }
+        ensures heads { (q : ℕ) → head_at (entries_at self.new) q ≡ head_at (entries_at self.old) q }
+        ensures shown { (q : ℕ) → shown_at (entries_at self.new) q ≡ option_map (with_input q spot (shown_place place)) (shown_at (entries_at self.old) q) }
+        ensures stations { (q : ℕ) → station_at (entries_at self.new) q ≡ station_at (entries_at self.old) q }
+        ensures size { IsSameSize self.old self.new }
+    {
+        let mut entry = self.get(spot.task);
+        entry.places[spot.place as usize] = place;
+        self.put(spot.task, entry);
+    }
+
+    // Writes the next one of an awaiting input.
+    fn set_next(&mut self, spot: Spot, next: Option<Spot>)
+        requires { IsSome (link_at (entries_at self.old) spot) }
+        ensures links { (p : AnySpot) → link_at (entries_at self.new) p ≡ option_map (with_next p spot next) (link_at (entries_at self.old) p) }
+        ensures heads { (q : ℕ) → head_at (entries_at self.new) q ≡ head_at (entries_at self.old) q }
+        ensures shown { (q : ℕ) → shown_at (entries_at self.new) q ≡ shown_at (entries_at self.old) q }
+        ensures stations { (q : ℕ) → station_at (entries_at self.new) q ≡ station_at (entries_at self.old) q }
+        ensures size { IsSameSize self.old self.new }
+    {
+        let link = self.link(spot);
+        self.set_place(spot, Place::Awaits(Link { next, ..link }));
+    }
+
+    // Writes the first and the last of a task's list.
+    fn set_ends(&mut self, task: u128, first: Option<Spot>, last: Option<Spot>)
+        requires { IsSome (entries_at self.old task) }
+        ensures links { (p : AnySpot) → link_at (entries_at self.new) p ≡ link_at (entries_at self.old) p }
+        ensures heads { (q : ℕ) → head_at (entries_at self.new) q ≡ option_map (with_ends q task first last) (head_at (entries_at self.old) q) }
+        ensures shown { (q : ℕ) → shown_at (entries_at self.new) q ≡ shown_at (entries_at self.old) q }
+        ensures stations { (q : ℕ) → station_at (entries_at self.new) q ≡ station_at (entries_at self.old) q }
+        ensures size { IsSameSize self.old self.new }
+    {
+        let mut entry = self.get(task);
+        entry.first = first;
+        entry.last = last;
+        self.put(task, entry);
     }
 }
