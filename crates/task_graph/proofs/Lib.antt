@@ -1,3 +1,4 @@
 mod Chains
 mod Writing
+mod Tying
 mod Weaving

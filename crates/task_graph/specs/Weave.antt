@@ -1,5 +1,5 @@
 -- How the inputs that await a task are linked.
-use Rattle.std.specs.Prelude.{◌≡◌, ℕ, ◌<◌, ◌≤◌, ◌^◌, cond, nat_eq, ◌⊎◌, Option, None, Some}
+use Rattle.std.specs.Prelude.{◌≡◌, ℕ, ◌<◌, ◌≤◌, ◌^◌, Bool, false, cond, nat_eq, ◌⊎◌, Option, None, Some}
 use Rattle.std.specs.Option.{option_map}
 use Rattle.task_graph.specs.declared.entries.Spot.{Spot}
 use Rattle.task_graph.specs.declared.entries.Link.{Link}
@@ -41,6 +41,20 @@ row_of links spot = option_map (λ link. (link.task, link.number)) (links spot)
 -- a link with another next one, where it is that of an input
 abbrev pub with_next : Spot → Spot → Option Spot → Link → Link
 with_next at spot next link = record link { next = cond (is_spot at spot) next link.next }
+
+-- whether an input is this one, if one is given
+abbrev pub is_at : Spot → Option Spot → Bool
+is_at spot None = false
+is_at spot (Some other) = is_spot spot other
+
+-- a link with another next one, where it is that of an input, if one is given
+abbrev pub with_next_at : Spot → Option Spot → Option Spot → Link → Link
+with_next_at at spot next link = record link { next = cond (is_at at spot) next link.next }
+
+-- an input in place of another where nothing is given
+abbrev pub instead : Option Spot → Spot → Option Spot → Option Spot
+instead None spot other = Some spot
+instead (Some there) spot other = other
 
 -- a head with another first and last, where it is that of a task
 abbrev pub with_ends : ℕ → ℕ → Option Spot → Option Spot → Head → Head

@@ -63,7 +63,7 @@ impl<K: Copy> Entries<K> {
     }
 
     // Writes the entry of a task.
-    fn put(&mut self, task: u128, entry: Entry<K>)
+    pub fn put(&mut self, task: u128, entry: Entry<K>)
         requires { IsSome (entries_at self.old task) }
         ensures at { (q : ℕ) → entries_at self.new q ≡ put_in task entry (entries_at self.old) q }
         ensures size { IsSameSize self.old self.new }
@@ -102,7 +102,7 @@ impl<K: Copy> Entries<K> {
     }
 
     // Writes the input at a place.
-    fn set_place(&mut self, spot: Spot, place: Place)
+    pub fn set_place(&mut self, spot: Spot, place: Place)
         requires { IsSome (place_at (entries_at self.old) spot) }
         ensures places { (p : AnySpot) → place_at (entries_at self.new) p ≡ cond (is_spot p spot) (Some place) (place_at (entries_at self.old) p) }
         ensures heads { (q : ℕ) → head_at (entries_at self.new) q ≡ head_at (entries_at self.old) q }
@@ -116,7 +116,7 @@ impl<K: Copy> Entries<K> {
     }
 
     // Writes the next one of an awaiting input.
-    fn set_next(&mut self, spot: Spot, next: Option<Spot>)
+    pub fn set_next(&mut self, spot: Spot, next: Option<Spot>)
         requires { IsSome (link_at (entries_at self.old) spot) }
         ensures links { (p : AnySpot) → link_at (entries_at self.new) p ≡ option_map (with_next p spot next) (link_at (entries_at self.old) p) }
         ensures heads { (q : ℕ) → head_at (entries_at self.new) q ≡ head_at (entries_at self.old) q }
@@ -129,7 +129,7 @@ impl<K: Copy> Entries<K> {
     }
 
     // Writes the first and the last of a task's list.
-    fn set_ends(&mut self, task: u128, first: Option<Spot>, last: Option<Spot>)
+    pub fn set_ends(&mut self, task: u128, first: Option<Spot>, last: Option<Spot>)
         requires { IsSome (entries_at self.old task) }
         ensures links { (p : AnySpot) → link_at (entries_at self.new) p ≡ link_at (entries_at self.old) p }
         ensures heads { (q : ℕ) → head_at (entries_at self.new) q ≡ option_map (with_ends q task first last) (head_at (entries_at self.old) q) }
