@@ -1,4 +1,5 @@
 mod Chains
 mod Writing
 mod Tying
+mod Walking
 mod Weaving

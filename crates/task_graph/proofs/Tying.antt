@@ -6,7 +6,7 @@ use Rattle.task_states.proofs.Maps.{same_or_not, test_same, test_apart}
 use Rattle.task_graph.specs.declared.entries.Link.{Link}
 use Rattle.task_graph.specs.declared.entries.Spot.{Spot}
 use Rattle.task_graph.specs.Inside.{is_spot}
-use Rattle.task_graph.specs.Weave.{Head, row_of, is_at, with_next_at, with_ends, instead, IsGap, IsJoined, IsRelinked, IsTied}
+use Rattle.task_graph.specs.Weave.{Head, row_of, is_at, with_next_at, with_ends, instead, last_behind, IsGap, IsJoined, IsRelinked, IsTied, IsUntied}
 use Rattle.task_graph.proofs.Chains.{not_none}
 use Rattle.task_graph.proofs.Weaving.{same_spot, same_some}
 
@@ -123,4 +123,48 @@ module _ (heads new_heads : ℕ → Option Head) (links new_links : Spot → Opt
     made_heads q ∙ ap (option_map (with_ends q link.task (instead before spot own.first) (instead link.next spot own.last))) is,
     joined q head _ is refl,
     );
+  }
+
+-- the first of a list that is written as a known input leaves it
+module _ (heads new_heads : ℕ → Option Head) (links new_links : Spot → Option Link) (spot : Spot) (link : Link) (own : Head)
+  (there : links spot ≡ Some link) (own_is : heads link.task ≡ Some own) (first : own.first ≡ Some spot)
+  (made_links : (p : Spot) → new_links p ≡ cond (is_spot p spot) None (links p))
+  (made_heads : (q : ℕ) → new_heads q ≡ option_map (with_ends q link.task link.next (last_behind link.next own.last)) (heads q)) where
+  untied_ends : (q : ℕ) (old new : Head) → heads q ≡ Some old → with_ends q link.task link.next (last_behind link.next own.last) old ≡ new
+      → ((q ≡ link.task) × (old.first ≡ Some spot) × (new.first ≡ link.next) × (new.last ≡ last_behind link.next old.last)) ⊎ ((q ≡ link.task → ⊥) × (new.first ≡ old.first) × (new.last ≡ old.last))
+  untied_ends q old new is made =
+      elim (same_or_not q link.task) [
+        | inl same ↦
+          let test : nat_eq q link.task ≡ true = ap (λ t. nat_eq t link.task) same ∙ test_same link.task in
+          let one : own ≡ old = same_some own old (sym own_is ∙ sym (ap heads same) ∙ is) in
+          inl (
+          same,
+          ap (λ (h : Head). h.first) (sym one) ∙ first,
+          ap (λ (h : Head). h.first) (sym made) ∙ ap (λ t. cond t link.next old.first) test,
+          ap (λ (h : Head). h.last) (sym made) ∙ ap (λ t. cond t (last_behind link.next own.last) old.last) test ∙ ap (λ (h : Head). last_behind link.next h.last) one,
+          )
+        | inr apart ↦
+          let test = test_apart q link.task apart in
+          inr (
+          apart,
+          ap (λ (h : Head). h.first) (sym made) ∙ ap (λ t. cond t link.next old.first) test,
+          ap (λ (h : Head). h.last) (sym made) ∙ ap (λ t. cond t (last_behind link.next own.last) old.last) test,
+          )
+      ]
+
+  pub untied : IsUntied heads new_heads links new_links spot link
+  untied = record {
+    there = there;
+    here = made_links spot ∙ ap (λ b. cond b None (links spot)) (spot_same spot);
+    rest = λ p apart. made_links p ∙ ap (λ b. cond b None (links p)) (spot_apart p spot apart);
+    heads_from = λ q head is.
+    let behind = map_behind (with_ends q link.task link.next (last_behind link.next own.last)) (heads q) head (sym (made_heads q) ∙ is) in (
+    behind.0,
+    behind.1,
+    ap (λ (h : Head). h.caller) (sym behind.2),
+    ap (λ (h : Head). h.runner) (sym behind.2),
+    ap (λ (h : Head). h.asked) (sym behind.2),
+    untied_ends q behind.0 head behind.1 behind.2,
+    );
+    heads_to = λ q head is. (with_ends q link.task link.next (last_behind link.next own.last) head, made_heads q ∙ ap (option_map (with_ends q link.task link.next (last_behind link.next own.last))) is, refl, refl);
   }

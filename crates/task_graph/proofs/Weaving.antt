@@ -5,7 +5,7 @@ use Rattle.std.proofs.lemmas.Bool.{cases_lt}
 use Rattle.task_states.proofs.Maps.{same_or_not}
 use Rattle.task_graph.specs.declared.entries.Spot.{Spot}
 use Rattle.task_graph.specs.declared.entries.Link.{Link}
-use Rattle.task_graph.specs.Weave.{Above, Leads, Head, row_of, IsEnd, IsWoven, IsGap, IsJoined, IsRelinked, IsTied, IsUntied, IsLeft}
+use Rattle.task_graph.specs.Weave.{Above, Leads, Head, row_of, IsEnd, last_behind, IsWoven, IsGap, IsJoined, IsRelinked, IsTied, IsUntied, IsLeft}
 use Rattle.task_graph.proofs.Chains.{not_none, same_key, row_with, leads_from_new, leads_to_new, leads_still, leads_over, leads_past}
 
 pub same_spot : (a b : Spot) → (a ≡ b) ⊎ (a ≡ b → ⊥)
@@ -324,7 +324,7 @@ module _ (heads new_heads : ℕ → Option Head) (links new_links : Spot → Opt
   end_stays_on q first (Some p) other apart empty end = (end.0, untied.rest p (λ same. apart (ap Some same)) ∙ end.1, end.2, end.3)
 
   -- the end of the list that the first left
-  end_after : (q : ℕ) (old : Head) → heads q ≡ Some old → q ≡ gone.task → old.first ≡ Some spot → (next : Option Spot) → gone.next ≡ next → IsEnd new_links q next (elim next [ None ↦ None | Some n ↦ old.last ])
+  end_after : (q : ℕ) (old : Head) → heads q ≡ Some old → q ≡ gone.task → old.first ≡ Some spot → (next : Option Spot) → gone.next ≡ next → IsEnd new_links q next (last_behind next old.last)
   end_after q old is at first None next = refl
   end_after q old is at first (Some n) next =
       elim (none_or_some old.last) [
@@ -364,7 +364,7 @@ module _ (heads new_heads : ℕ → Option Head) (links new_links : Spot → Opt
     let w = link_was p link is in
     leads_past same_spot (row_of links) (row_of new_links) spot gone.task gone.number was_row (no_row new_links spot untied.here) rows_rest link.task (Some link.number) link.next (next_apart top top_is top_first p link w.1) (woven.nexts p link w.1);
     lasts = λ q head is. let h = untied.heads_from q head is in elim h.5 [
-      | inl own ↦ subst (λ o. IsEnd new_links q head.first o) (sym own.3) (subst (λ o. IsEnd new_links q o (elim gone.next [ None ↦ None | Some next ↦ h.0.last ])) (sym own.2) (end_after q h.0 h.1 own.0 own.1 gone.next refl))
+      | inl own ↦ subst (λ o. IsEnd new_links q head.first o) (sym own.3) (subst (λ o. IsEnd new_links q o (last_behind gone.next h.0.last)) (sym own.2) (end_after q h.0 h.1 own.0 own.1 gone.next refl))
       | inr other ↦ subst (λ o. IsEnd new_links q head.first o) (sym other.2) (end_stays_on q h.0.first h.0.last head.first (last_apart top top_is q h.0 h.1 other.0) (λ none. other.1 ∙ none) (woven.lasts q h.0 h.1))
     ];
     home = λ p link is.

@@ -1,5 +1,5 @@
 -- How the inputs that await a task are linked.
-use Rattle.std.specs.Prelude.{◌≡◌, ℕ, ◌<◌, ◌≤◌, ◌^◌, Bool, false, cond, nat_eq, ◌⊎◌, Option, None, Some}
+use Rattle.std.specs.Prelude.{◌≡◌, ℕ, ◌<◌, ◌≤◌, ◌^◌, ◌-◌, Bool, false, cond, nat_eq, ◌⊎◌, Option, None, Some}
 use Rattle.std.specs.Option.{option_map}
 use Rattle.task_graph.specs.declared.entries.Spot.{Spot}
 use Rattle.task_graph.specs.declared.entries.Link.{Link}
@@ -56,6 +56,11 @@ abbrev pub instead : Option Spot → Spot → Option Spot → Option Spot
 instead None spot other = Some spot
 instead (Some there) spot other = other
 
+-- the last of a list, once its first has gone and this one follows: none where none follows
+abbrev pub last_behind : Option Spot → Option Spot → Option Spot
+last_behind None last = None
+last_behind (Some next) last = last
+
 -- a head with another first and last, where it is that of a task
 abbrev pub with_ends : ℕ → ℕ → Option Spot → Option Spot → Head → Head
 with_ends at task first last head = record head { first = cond (nat_eq at task) first head.first; last = cond (nat_eq at task) last head.last }
@@ -99,6 +104,36 @@ IsGap heads links task number (Some before) next =
     (link : Link) × (links before ≡ Some link) × (link.task ≡ task) × (link.number < number) × (next ≡ link.next)
     × ((spot : Spot) (other : Link) → links spot ≡ Some other → other.task ≡ task → link.number < other.number → number < other.number)
 
+-- no awaiting input has a number
+abbrev pub IsUnused : (Spot → Option Link) → ℕ → Type 0
+IsUnused links number = (spot : Spot) (link : Link) → links spot ≡ Some link → link.number ≡ number → ⊥
+
+-- what follows an input of the list with a lower number, or heads the list
+abbrev pub IsBelow : (ℕ → Option Head) → (Spot → Option Link) → ℕ → ℕ → Option Spot → Option Spot → Type 0
+IsBelow heads links task number None next = (head : Head) × (heads task ≡ Some head) × (next ≡ head.first)
+IsBelow heads links task number (Some before) next = (link : Link) × (links before ≡ Some link) × (link.task ≡ task) × (link.number < number) × (next ≡ link.next)
+
+-- no asked output has a number
+abbrev pub IsUnasked : (ℕ → Option Head) → ℕ → Type 0
+IsUnasked heads number = (task : ℕ) (head : Head) (asked : ℕ) → heads task ≡ Some head → head.asked ≡ Some asked → asked ≡ number → ⊥
+
+-- a task that no worker runs, and one of the same caller
+abbrev pub IsAtHome : (ℕ → Option Head) → ℕ → ℕ → Type 0
+IsAtHome heads task awaited = (own : Head) × (other : Head) × (heads task ≡ Some own) × (heads awaited ≡ Some other) × (other.caller ≡ own.caller) × (own.runner ≡ None)
+
+-- the first of the list of the task that it awaits
+abbrev pub IsFirst : (ℕ → Option Head) → (Spot → Option Link) → Spot → Type 0
+IsFirst heads links spot = (link : Link) × (head : Head) × (links spot ≡ Some link) × (heads link.task ≡ Some head) × (head.first ≡ Some spot)
+
+-- how far the number of an input is from the greatest of 128 bits
+abbrev pub rest_in : Option Link → ℕ
+rest_in None = 0
+rest_in (Some link) = 2 ^ 128 - link.number
+
+abbrev pub rest_from : (Spot → Option Link) → Option Spot → ℕ
+rest_from links None = 0
+rest_from links (Some spot) = rest_in (links spot)
+
 -- another head of a list that one more input joined: it is first where nothing stands before it, and last where nothing follows
 pub record IsJoined (old new : Head) (is_list : Type 0) (before next : Option Spot) (spot : Spot) : Type 0 where
   pub caller : new.caller ≡ old.caller
@@ -127,7 +162,7 @@ pub record IsUntied (heads new_heads : ℕ → Option Head) (links new_links : S
   pub here : new_links spot ≡ None
   pub rest : (other : Spot) → (other ≡ spot → ⊥) → new_links other ≡ links other
   pub heads_from : (q : ℕ) (head : Head) → new_heads q ≡ Some head → (old : Head) × (heads q ≡ Some old) × (head.caller ≡ old.caller) × (head.runner ≡ old.runner) × (head.asked ≡ old.asked)
-      × (((q ≡ gone.task) × (old.first ≡ Some spot) × (head.first ≡ gone.next) × (head.last ≡ (elim gone.next [ None ↦ None | Some next ↦ old.last ])))
+      × (((q ≡ gone.task) × (old.first ≡ Some spot) × (head.first ≡ gone.next) × (head.last ≡ last_behind gone.next old.last))
         ⊎ ((q ≡ gone.task → ⊥) × (head.first ≡ old.first) × (head.last ≡ old.last)))
   pub heads_to : (q : ℕ) (head : Head) → heads q ≡ Some head → (new : Head) × (new_heads q ≡ Some new) × (new.caller ≡ head.caller) × (new.runner ≡ head.runner)
 
