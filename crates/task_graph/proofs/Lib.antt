@@ -1,5 +1,6 @@
 mod Chains
 mod Writing
+mod Orders
 mod Tying
 mod Walking
 mod Weaving

@@ -76,3 +76,11 @@ module _ {K : Type 0} where
   -- a task with another input at a place, if the place is one of its own
   abbrev pub with_input : ℕ → Spot → Input Ref → Unfinished Ref K → Unfinished Ref K
   with_input task spot input unfinished = record unfinished { inputs = cond (nat_eq task spot.task) (set unfinished.inputs spot.place input) unfinished.inputs }
+
+  -- an entry with another worker, where it is that of a task
+  abbrev pub with_runner_at : ℕ → ℕ → Option ℕ → Entry K → Entry K
+  with_runner_at at task runner entry = record entry { runner = cond (nat_eq at task) runner entry.runner }
+
+  -- an entry with another number of its asked output, where it is that of a task
+  abbrev pub with_asked_at : ℕ → ℕ → Option ℕ → Entry K → Entry K
+  with_asked_at at task asked entry = record entry { asked = cond (nat_eq at task) asked entry.asked }

@@ -1,2 +1,4 @@
+pub mod Callers
 pub mod Inside
+pub mod Order
 pub mod Weave

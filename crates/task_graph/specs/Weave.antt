@@ -6,7 +6,7 @@ use Rattle.task_graph.specs.declared.entries.Link.{Link}
 use Rattle.task_graph.specs.declared.entries.Entry.{Entry}
 use Rattle.task_graph.specs.declared.entries.Place.{Place}
 use Rattle.task_graph.specs.declared.entries.Place.TheVariants.{Known, Awaits}
-use Rattle.task_graph.specs.Inside.{place_at, is_spot}
+use Rattle.task_graph.specs.Inside.{place_at, is_spot, shown_at}
 
 -- above a number, if one is given
 abbrev pub Above : Option ℕ → ℕ → Type 0
@@ -176,3 +176,10 @@ pub record IsLeft (heads new_heads : ℕ → Option Head) (links new_links : Spo
       ⊎ ((head.first ≡ None) × (head.last ≡ None) × ((spot : Spot) (link : Link) → links spot ≡ Some link → link.task ≡ q → ⊥))
   pub asked_apart : (spot : Spot) (link : Link) (task : ℕ) (head : Head) (number : ℕ)
       → new_links spot ≡ Some link → new_heads task ≡ Some head → head.asked ≡ Some number → link.number ≡ number → ⊥
+
+-- entries that differ in no more than how the tasks of a caller are linked
+pub record IsBeside {K : Type 0} (old new : ℕ → Option (Entry K)) : Type 0 where
+  pub heads : (q : ℕ) → head_at new q ≡ head_at old q
+  pub links : (spot : Spot) → link_at new spot ≡ link_at old spot
+  pub places : (spot : Spot) → place_at new spot ≡ place_at old spot
+  pub shown : (q : ℕ) → shown_at new q ≡ shown_at old q

@@ -1,9 +1,11 @@
 // The entries of tasks, and the lists of those that await each.
-ghost use Rattle.std.specs.Prelude.{◌≡◌, ℕ, cond, Some, IsSome};
+ghost use Rattle.std.specs.Prelude.{◌≡◌, ◌<◌, ◌≤◌, ◌+◌, ℕ, cond, nat_eq, Some, None, IsSome};
+ghost use Rattle.std.specs.HashMap.{hash_map_len};
 ghost use Rattle.std.specs.Option.{option_map};
 ghost use Rattle.task_graph.specs.declared.entries.Spot.{Spot as AnySpot};
-ghost use Rattle.task_graph.specs.Inside.{entries_at, put_in, IsSameSize, shown_place, place_at, is_spot, with_input, shown_at, station_at};
-ghost use Rattle.task_graph.specs.Weave.{head_at, link_at, with_next, with_ends};
+ghost use Rattle.task_graph.specs.Inside.{entries_at, put_in, room_of, IsSameSize, shown_place, place_at, is_spot, with_input, shown_at, station_at, with_runner_at, with_asked_at};
+ghost use Rattle.task_graph.specs.Weave.{head_at, link_at, with_next, with_ends, IsBeside};
+ghost use Rattle.task_graph.specs.Order.{with_after_at, with_before_at};
 
 
 use cht_ids::Ref;
@@ -141,5 +143,74 @@ impl<K: Copy> Entries<K> {
         entry.first = first;
         entry.last = last;
         self.put(task, entry);
+    }
+
+    /// Writes the task that follows a task among those of its caller.
+    pub fn set_after(&mut self, task: u128, after: Option<u128>)
+        requires { IsSome (entries_at self.old task) }
+        ensures stations { (q : ℕ) → station_at (entries_at self.new) q ≡ option_map (with_after_at q (Some task) after) (station_at (entries_at self.old) q) }
+        ensures beside { IsBeside (entries_at self.old) (entries_at self.new) }
+        ensures size { IsSameSize self.old self.new }
+    {
+        let mut entry = self.get(task);
+        entry.after = after;
+        self.put(task, entry);
+    }
+
+    /// Writes the task that stands before a task among those of its caller.
+    pub fn set_before(&mut self, task: u128, before: Option<u128>)
+        requires { IsSome (entries_at self.old task) }
+        ensures stations { (q : ℕ) → station_at (entries_at self.new) q ≡ option_map (with_before_at q (Some task) before) (station_at (entries_at self.old) q) }
+        ensures beside { IsBeside (entries_at self.old) (entries_at self.new) }
+        ensures size { IsSameSize self.old self.new }
+    {
+        let mut entry = self.get(task);
+        entry.before = before;
+        self.put(task, entry);
+    }
+
+    /// Writes the worker that runs a task.
+    pub fn set_runner(&mut self, task: u128, runner: Option<u32>)
+        requires { IsSome (entries_at self.old task) }
+        ensures at { (q : ℕ) → entries_at self.new q ≡ option_map (with_runner_at q task runner) (entries_at self.old q) }
+        ensures size { IsSameSize self.old self.new }
+    {
+        let mut entry = self.get(task);
+        entry.runner = runner;
+        self.put(task, entry);
+    }
+
+    /// Writes the number of the asked output of a task.
+    pub fn set_asked(&mut self, task: u128, asked: Option<u128>)
+        requires { IsSome (entries_at self.old task) }
+        ensures at { (q : ℕ) → entries_at self.new q ≡ option_map (with_asked_at q task asked) (entries_at self.old q) }
+        ensures size { IsSameSize self.old self.new }
+    {
+        let mut entry = self.get(task);
+        entry.asked = asked;
+        self.put(task, entry);
+    }
+
+    /// One more task, for which there is room.
+    pub fn insert(&mut self, task: u128, entry: Entry<K>)
+        requires new { entries_at self.old task ≡ None }
+        requires room { 0 < room_of self.old }
+        ensures at { (q : ℕ) → entries_at self.new q ≡ put_in task entry (entries_at self.old) q }
+        ensures len { hash_map_len self.new.tasks ≡ hash_map_len self.old.tasks + 1 }
+        ensures room { room_of self.old ≤ room_of self.new + 1 }
+    {
+        let reserved: Result<_, _> = self.tasks.insert(task, entry);
+        reserved.unwrap();
+    }
+
+    /// Takes a task out.
+    pub fn remove(&mut self, task: u128) -> Entry<K>
+        requires { IsSome (entries_at self.old task) }
+        ensures entry { entries_at self.old task ≡ Some result }
+        ensures at { (q : ℕ) → entries_at self.new q ≡ cond (nat_eq q task) None (entries_at self.old q) }
+        ensures len { hash_map_len self.new.tasks + 1 ≡ hash_map_len self.old.tasks }
+        ensures room { room_of self.old ≤ room_of self.new }
+    {
+        self.tasks.remove(&task).unwrap()
     }
 }

@@ -1,5 +1,6 @@
 //! The unfinished tasks of a core: which of them are ready, and who awaits whose output.
 #![tactic(auto)]
 
+mod callers;
 mod entries;
 mod weave;
