@@ -1,5 +1,5 @@
 -- How the tasks of each caller are linked, by rising number.
-use Rattle.std.specs.Prelude.{◌≡◌, ℕ, ◌<◌, ◌⊎◌, Bool, true, false, ◌&&◌, cond, nat_eq, Option, None, Some}
+use Rattle.std.specs.Prelude.{◌≡◌, ℕ, ◌<◌, ◌+◌, ◌⊎◌, Bool, true, false, ◌&&◌, cond, nat_eq, Option, None, Some}
 use Rattle.std.specs.Option.{option_map}
 use Rattle.task_graph.specs.Inside.{Station}
 use Rattle.task_graph.specs.Weave.{Leads}
@@ -72,12 +72,22 @@ IsJustBelow stations caller number (Some before) =
     (station : Station) × (stations before ≡ Some station) × (station.caller ≡ caller) × (before < number)
     × ((task : ℕ) (other : Station) → stations task ≡ Some other → other.caller ≡ caller → before < task → number < task)
 
+-- what follows a task, or is first where none is given
+abbrev pub IsBehind : (ℕ → Option Bounds) → (ℕ → Option Station) → ℕ → Option ℕ → Option ℕ → Type 0
+IsBehind bounds stations caller None after = (own : Bounds) × (bounds caller ≡ Some own) × (after ≡ own.first)
+IsBehind bounds stations caller (Some before) after = (station : Station) × (stations before ≡ Some station) × (after ≡ station.after)
+
 -- a task of a caller, above which all have greater numbers than a number, or none where all have
 abbrev pub IsFloor : (ℕ → Option Station) → ℕ → ℕ → Option ℕ → Type 0
 IsFloor stations caller number None = (task : ℕ) (station : Station) → stations task ≡ Some station → station.caller ≡ caller → number < task
 IsFloor stations caller number (Some at) =
     (station : Station) × (stations at ≡ Some station) × (station.caller ≡ caller)
     × ((task : ℕ) (other : Station) → stations task ≡ Some other → other.caller ≡ caller → at < task → number < task)
+
+-- a number above a task, or 0 where none is given
+abbrev pub height_of : Option ℕ → ℕ
+height_of None = 0
+height_of (Some task) = task + 1
 
 -- another station of a task whose neighbours changed
 pub record IsRestationed (old new : Station) (task : ℕ) (before after to_after to_before : Option ℕ) : Type 0 where

@@ -183,3 +183,16 @@ pub record IsBeside {K : Type 0} (old new : ℕ → Option (Entry K)) : Type 0 w
   pub links : (spot : Spot) → link_at new spot ≡ link_at old spot
   pub places : (spot : Spot) → place_at new spot ≡ place_at old spot
   pub shown : (q : ℕ) → shown_at new q ≡ shown_at old q
+
+-- entries by number
+abbrev pub Middle : Type 0 → Type 0
+Middle K = ℕ → Option (Entry K)
+
+-- an entry more, whose neighbours may be others
+abbrev pub IsInserted : {K : Type 0} → Middle K → Middle K → ℕ → Entry K → Type 0
+IsInserted old new task entry =
+    (before : Option ℕ) × (after : Option ℕ) × ((q : ℕ) → new q ≡ cond (nat_eq q task) (Some (record entry { before = before; after = after })) (old q))
+
+-- an entry less
+abbrev pub IsWithout : {K : Type 0} → Middle K → Middle K → ℕ → Type 0
+IsWithout old new task = (q : ℕ) → new q ≡ cond (nat_eq q task) None (old q)

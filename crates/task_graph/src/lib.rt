@@ -3,4 +3,5 @@
 
 mod callers;
 mod entries;
+mod parts;
 mod weave;

@@ -1,0 +1,135 @@
+// Tasks among those of their callers.
+ghost use Rattle.std.specs.Prelude.{◌≡◌, ◌<◌, ◌≤◌, ◌+◌, ℕ, Some, None, IsSome};
+ghost use Rattle.std.specs.Option.{option_map};
+ghost use Rattle.std.specs.HashMap.{hash_map_len};
+ghost use Rattle.task_graph.specs.Inside.{entries_at, room_of, station_at, IsSameSize};
+ghost use Rattle.task_graph.specs.Weave.{IsBeside, Middle, IsInserted, IsWithout};
+ghost use Rattle.task_graph.specs.Callers.{caller_at, bounds_at, load_at};
+ghost use Rattle.task_graph.specs.Order.{IsOrdered, IsJustBelow, IsBehind, with_after_at, with_before_at, with_first_at, with_last_at};
+
+use crate::callers::{Caller, Callers};
+use crate::entries::{Entries, Entry};
+
+// All tasks, and what is kept for their callers.
+#[derive(Drop)]
+pub(crate) struct Parts<K> {
+    pub entries: Entries<K>,
+    pub callers: Callers,
+}
+
+impl<K: Copy> Parts<K> {
+    // The task of a caller with the greatest lower number, looked for from the last.
+    fn below(&self, caller: u32, task: u128) -> Option<u128>
+        requires caller { caller < 64 }
+        requires ordered { IsOrdered (bounds_at (caller_at self.now.callers)) (station_at (entries_at self.now.entries)) }
+        requires new { entries_at self.now.entries task ≡ None }
+        ensures { IsJustBelow (station_at (entries_at self.now.entries)) caller task result }
+    {
+        let row = self.callers.get(caller);
+        let mut at = row.last;
+        while let Some(other) = at {
+            if other < task {
+                return at;
+            }
+            let entry = self.entries.get(other);
+            at = entry.before;
+        }
+        None
+    }
+
+    // What follows a task among those of its caller, or the first where none is given.
+    fn behind(&self, caller: u32, before: Option<u128>) -> Option<u128>
+        requires caller { caller < 64 }
+        requires there { (q : ℕ) → before ≡ Some q → IsSome (entries_at self.now.entries q) }
+        ensures { IsBehind (bounds_at (caller_at self.now.callers)) (station_at (entries_at self.now.entries)) caller before result }
+    {
+        match before {
+            None => {
+                let row = self.callers.get(caller);
+                row.first
+            }
+            Some(task) => {
+                let entry = self.entries.get(task);
+                entry.after
+            }
+        }
+    }
+
+    // Writes what follows a task among those of a caller, or the first where none is given.
+    fn lead_on(&mut self, caller: u32, before: Option<u128>, to: Option<u128>)
+        requires caller { caller < 64 }
+        requires there { (q : ℕ) → before ≡ Some q → IsSome (entries_at self.old.entries q) }
+        ensures stations { (q : ℕ) → station_at (entries_at self.new.entries) q ≡ option_map (with_after_at q before to) (station_at (entries_at self.old.entries) q) }
+        ensures bounds { (q : ℕ) → bounds_at (caller_at self.new.callers) q ≡ option_map (with_first_at q caller before to) (bounds_at (caller_at self.old.callers) q) }
+        ensures load { (q : ℕ) → load_at (caller_at self.new.callers) q ≡ load_at (caller_at self.old.callers) q }
+        ensures beside { IsBeside (entries_at self.old.entries) (entries_at self.new.entries) }
+        ensures size { IsSameSize self.old.entries self.new.entries }
+    {
+        match before {
+            None => {
+                let row = self.callers.get(caller);
+                self.callers.set(caller, Caller { first: to, ..row });
+            }
+            Some(task) => self.entries.set_after(task, to),
+        }
+    }
+
+    // Writes what stands before a task among those of a caller, or the last where none is given.
+    fn lead_back(&mut self, caller: u32, after: Option<u128>, to: Option<u128>)
+        requires caller { caller < 64 }
+        requires there { (q : ℕ) → after ≡ Some q → IsSome (entries_at self.old.entries q) }
+        ensures stations { (q : ℕ) → station_at (entries_at self.new.entries) q ≡ option_map (with_before_at q after to) (station_at (entries_at self.old.entries) q) }
+        ensures bounds { (q : ℕ) → bounds_at (caller_at self.new.callers) q ≡ option_map (with_last_at q caller after to) (bounds_at (caller_at self.old.callers) q) }
+        ensures load { (q : ℕ) → load_at (caller_at self.new.callers) q ≡ load_at (caller_at self.old.callers) q }
+        ensures beside { IsBeside (entries_at self.old.entries) (entries_at self.new.entries) }
+        ensures size { IsSameSize self.old.entries self.new.entries }
+    {
+        match after {
+            None => {
+                let row = self.callers.get(caller);
+                self.callers.set(caller, Caller { last: to, ..row });
+            }
+            Some(task) => self.entries.set_before(task, to),
+        }
+    }
+
+    /// One more task, among those of its caller.
+    pub fn place(&mut self, task: u128, entry: Entry<K>)
+        requires caller { entry.caller < 64 }
+        requires ordered { IsOrdered (bounds_at (caller_at self.old.callers)) (station_at (entries_at self.old.entries)) }
+        requires new { entries_at self.old.entries task ≡ None }
+        requires room { 0 < room_of self.old.entries }
+        ensures ordered { IsOrdered (bounds_at (caller_at self.new.callers)) (station_at (entries_at self.new.entries)) }
+        ensures beside { (middle : Middle K) × IsInserted (entries_at self.old.entries) middle task entry × IsBeside middle (entries_at self.new.entries) }
+        ensures load { (q : ℕ) → load_at (caller_at self.new.callers) q ≡ load_at (caller_at self.old.callers) q }
+        ensures len { hash_map_len self.new.entries.tasks ≡ hash_map_len self.old.entries.tasks + 1 }
+        ensures room { room_of self.old.entries ≤ room_of self.new.entries + 1 }
+    {
+        let before = self.below(entry.caller, task);
+        let after = self.behind(entry.caller, before);
+        let placed = Entry {
+            before,
+            after,
+            ..entry
+        };
+        self.entries.insert(task, placed);
+        self.lead_on(entry.caller, before, Some(task));
+        self.lead_back(entry.caller, after, Some(task));
+    }
+
+    /// Takes a task out from those of its caller.
+    pub fn take(&mut self, task: u128)
+        requires ordered { IsOrdered (bounds_at (caller_at self.old.callers)) (station_at (entries_at self.old.entries)) }
+        requires there { IsSome (entries_at self.old.entries task) }
+        requires callers { (q : ℕ) → IsSome (bounds_at (caller_at self.old.callers) q) → q < 64 }
+        ensures ordered { IsOrdered (bounds_at (caller_at self.new.callers)) (station_at (entries_at self.new.entries)) }
+        ensures beside { (middle : Middle K) × IsWithout (entries_at self.old.entries) middle task × IsBeside middle (entries_at self.new.entries) }
+        ensures load { (q : ℕ) → load_at (caller_at self.new.callers) q ≡ load_at (caller_at self.old.callers) q }
+        ensures len { hash_map_len self.new.entries.tasks + 1 ≡ hash_map_len self.old.entries.tasks }
+        ensures room { room_of self.old.entries ≤ room_of self.new.entries }
+    {
+        let entry = self.entries.remove(task);
+        self.lead_on(entry.caller, entry.before, entry.after);
+        self.lead_back(entry.caller, entry.after, entry.before);
+    }
+}
