@@ -1,4 +1,5 @@
 pub mod Callers
 pub mod Inside
 pub mod Order
+pub mod Queue
 pub mod Weave

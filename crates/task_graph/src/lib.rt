@@ -4,4 +4,5 @@
 mod callers;
 mod entries;
 mod parts;
+mod queue;
 mod weave;
