@@ -2,6 +2,7 @@ mod Besides
 mod Chains
 mod Writing
 mod Orders
+mod Queues
 mod Splicing
 mod Tying
 mod Walking
