@@ -3,7 +3,9 @@ mod Chains
 mod Writing
 mod Orders
 mod Queues
+mod Runs
 mod Splicing
 mod Tying
+mod Views
 mod Walking
 mod Weaving

@@ -1,4 +1,6 @@
 pub mod Callers
+pub mod Contents
+pub mod Graphs
 pub mod Inside
 pub mod Order
 pub mod Queue

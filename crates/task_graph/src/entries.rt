@@ -2,14 +2,17 @@
 ghost use Rattle.std.specs.Prelude.{◌≡◌, ◌<◌, ◌≤◌, ◌+◌, ℕ, cond, nat_eq, Some, None, IsSome};
 ghost use Rattle.std.specs.HashMap.{hash_map_len};
 ghost use Rattle.std.specs.Option.{option_map};
+ghost use Rattle.std.specs.List.{list_any};
+ghost use Rattle.task_states.specs.States.{is_awaiting, status_of};
 ghost use Rattle.task_graph.specs.declared.entries.Spot.{Spot as AnySpot};
-ghost use Rattle.task_graph.specs.Inside.{entries_at, put_in, room_of, IsSameSize, shown_place, place_at, is_spot, with_input, shown_at, station_at, with_runner_at, with_asked_at};
+ghost use Rattle.task_graph.specs.Inside.{entries_at, put_in, room_of, IsSameSize, shown_place, place_at, is_spot, with_input, shown_at, station_at, with_runner_at, with_asked_at, shown_entry};
 ghost use Rattle.task_graph.specs.Weave.{head_at, link_at, with_next, with_ends, IsBeside};
 ghost use Rattle.task_graph.specs.Order.{with_after_at, with_before_at};
 
 
 use cht_ids::Ref;
 use std::collections::HashMap;
+use task_states::TaskStatus;
 
 // A place of an input of a task.
 #[derive(Clone, Copy)]
@@ -212,5 +215,57 @@ impl<K: Copy> Entries<K> {
         ensures room { room_of self.old ≤ room_of self.new }
     {
         self.tasks.remove(&task).unwrap()
+    }
+}
+
+impl Place {
+    // Whether the input awaits a task.
+    fn is_awaiting(&self) -> bool
+        ensures { result ≡ is_awaiting (shown_place self.now) }
+    {
+        match self {
+            Place::Known(_) => false,
+            Place::Awaits(_) => true,
+        }
+    }
+}
+
+// Whether one of these inputs awaits a task.
+fn any_awaits(places: &[Place]) -> bool
+    ensures { result ≡ list_any (λ place. is_awaiting (shown_place place)) places.now }
+{
+    places.iter().any(|place| place.is_awaiting())
+}
+
+impl<K: Copy> Entry<K> {
+    /// Whether an input awaits a task.
+    pub fn is_waiting(&self) -> bool
+        requires { self.now.count ≤ 4 }
+        ensures { result ≡ list_any is_awaiting (shown_entry self.now).inputs }
+    {
+        any_awaits(&self.places[..self.count as usize])
+    }
+
+    /// How far the task is.
+    pub fn status(&self) -> TaskStatus
+        requires { self.now.count ≤ 4 }
+        ensures { result ≡ status_of (shown_entry self.now) }
+    {
+        if self.is_waiting() {
+            TaskStatus::Waiting
+        } else if self.runner.is_some() {
+            TaskStatus::Running
+        } else {
+            TaskStatus::Ready
+        }
+    }
+}
+
+impl<K: Copy> Entries<K> {
+    /// The entry of a task, if there is one.
+    pub fn find(&self, task: u128) -> Option<Entry<K>>
+        ensures { result ≡ entries_at self.now task }
+    {
+        self.tasks.get(&task).copied()
     }
 }

@@ -3,6 +3,7 @@
 
 mod callers;
 mod entries;
+mod held;
 mod parts;
 mod queue;
 mod weave;

@@ -7,8 +7,14 @@ ghost use Rattle.task_graph.specs.Weave.{IsBeside, Middle, IsInserted, IsWithout
 ghost use Rattle.task_graph.specs.Callers.{caller_at, bounds_at, load_at};
 ghost use Rattle.task_graph.specs.Order.{IsOrdered, IsJustBelow, IsBehind, with_after_at, with_before_at, with_first_at, with_last_at};
 
+ghost use Rattle.std.specs.Prelude.{IsTrue, ◌↔◌};
+ghost use Rattle.task_graph.specs.Graphs.{graph_of, IsWhole};
+ghost use Rattle.task_states.specs.States.{status};
+ghost use Rattle.task_states.specs.Awaiters.{IsRunnable};
+
 use crate::callers::{Caller, Callers};
 use crate::entries::{Entries, Entry};
+use task_states::TaskStatus;
 
 // All tasks, and what is kept for their callers.
 #[derive(Drop)]
@@ -131,5 +137,35 @@ impl<K: Copy> Parts<K> {
         let entry = self.entries.remove(task);
         self.lead_on(entry.caller, entry.before, entry.after);
         self.lead_back(entry.caller, entry.after, entry.before);
+    }
+
+    /// How far a task is.
+    pub fn status(&self, task: u128) -> TaskStatus
+        requires { IsWhole self.now }
+        ensures { result ≡ status (graph_of self.now) task }
+    {
+        match self.entries.find(task) {
+            None => TaskStatus::Unknown,
+            Some(entry) => entry.status(),
+        }
+    }
+
+    /// Whether a task is Ready and its caller is not stopped.
+    pub fn is_runnable(&self, task: u128) -> bool
+        requires { IsWhole self.now }
+        ensures { IsTrue result ↔ IsRunnable (graph_of self.now) task }
+    {
+        match self.entries.find(task) {
+            None => false,
+            Some(entry) => {
+                let row = self.callers.get(entry.caller);
+                match entry.status() {
+                    TaskStatus::Unknown => false,
+                    TaskStatus::Waiting => false,
+                    TaskStatus::Ready => !row.stopped,
+                    TaskStatus::Running => false,
+                }
+            }
+        }
     }
 }

@@ -1,0 +1,58 @@
+-- Which tasks the fields behind `Tasks` stand for, and what holds of them.
+use Rattle.std.specs.Prelude.{◌≡◌, ℕ, suc, ◌+◌, ◌≤◌, ◌<◌, ◌^◌, cond, true, List, [], ◌∷◌, length, map as each, Option, None, Some, ◌⊎◌}
+use Rattle.std.specs.HashMap.{hash_map_len}
+use Rattle.std.specs.Ordering.{nat_cmp}
+use Rattle.std.specs.FinMap as map
+use Rattle.std.specs.FinSet as numbers
+use Rattle.cht_ids.specs.declared.refs.Ref.{Ref}
+use Rattle.task_states.specs.States.{Unfinished, Graph, running}
+use Rattle.task_states.specs.Awaiters.{IsRunnable}
+use Rattle.task_graph.specs.declared.callers.Caller.{Caller}
+use Rattle.task_graph.specs.declared.entries.Entry.{Entry}
+use Rattle.task_graph.specs.declared.parts.Parts.{Parts}
+use Rattle.task_graph.specs.declared.held.Held.{Held}
+use Rattle.task_graph.specs.Inside.{shown_entry, entries_at, station_at, room_of}
+use Rattle.task_graph.specs.Weave.{head_at, link_at, IsWoven}
+use Rattle.task_graph.specs.Callers.{caller_at, bounds_at}
+use Rattle.task_graph.specs.Order.{IsOrdered}
+use Rattle.task_graph.specs.Queue.{is_queued, IsQueue, IsQueueLeast, queue_capacity}
+
+-- the stopped callers of rows, which count from a number
+unfoldable pub stopped_from : ℕ → List Caller → numbers.FinSet nat_cmp
+stopped_from first [] = numbers.empty
+stopped_from first (row ∷ rows) = cond row.stopped (numbers.insert (stopped_from (suc first) rows) first) (stopped_from (suc first) rows)
+
+module _ {K : Type 0} where
+  -- the tasks of a hash map's entries
+  unfoldable pub tasks_of : List (ℕ × Entry K) → map.FinMap nat_cmp (Unfinished Ref K)
+  tasks_of entries = map.from_entries (each (λ e. (e.0, shown_entry e.1)) entries)
+
+  -- the tasks that the fields stand for
+  abbrev pub graph_of : Parts K → Graph Ref K
+  graph_of parts = record { tasks = tasks_of parts.entries.tasks.entries; stopped = stopped_from 0 parts.callers.rows }
+
+  -- The fields hang together, and what is counted for each caller is exact.
+  pub record IsWhole (parts : Parts K) : Type 0 where
+    pub woven : IsWoven (head_at (entries_at parts.entries)) (link_at (entries_at parts.entries))
+    pub ordered : IsOrdered (bounds_at (caller_at parts.callers)) (station_at (entries_at parts.entries))
+    pub short : (task : ℕ) (entry : Entry K) → entries_at parts.entries task ≡ Some entry → entry.count ≤ 4
+    pub rows : length parts.callers.rows ≡ 64
+    pub counted : (caller : ℕ) (row : Caller) → caller_at parts.callers caller ≡ Some row → row.running ≡ running (graph_of parts) caller
+
+  -- Every task that can be run is among the numbers.
+  abbrev pub AreQueued : Held K → Type 0
+  AreQueued held = (task : ℕ) → IsRunnable (graph_of held.parts) task → is_queued task held.ready ≡ true
+
+  -- There is room for the reserved tasks, and for the number of each.
+  pub record HasRoom (held : Held K) : Type 0 where
+    pub entries : held.spare ≤ room_of held.parts.entries
+    pub numbers : hash_map_len held.parts.entries.tasks + held.spare ≤ queue_capacity held.ready
+    pub few : hash_map_len held.parts.entries.tasks + held.spare < 2 ^ 32
+
+  -- All of it holds, and the least number is that of a task that can be run.
+  pub record IsHeld (held : Held K) : Type 0 where
+    pub whole : IsWhole held.parts
+    pub queue : IsQueue held.ready
+    pub queued : AreQueued held
+    pub least : (task : ℕ) → IsQueueLeast held.ready (Some task) → IsRunnable (graph_of held.parts) task
+    pub room : HasRoom held
