@@ -1,6 +1,9 @@
 mod Besides
 mod Chains
+mod Changes
 mod Writing
+mod Cleaning
+mod Counting
 mod Orders
 mod Queues
 mod Runs

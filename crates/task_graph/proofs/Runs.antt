@@ -80,3 +80,9 @@ module _ {K : Type 0} (parts : Parts K) where
   caller_low whole q entry is =
       let k = whole.ordered.known q (station_of entry) (ap (option_map station_of) is) in
       subst (λ n. entry.caller < n) whole.rows (within parts.callers.rows entry.caller (bound k.0 (caller_at parts.callers entry.caller) k.1))
+
+pub true_is : IsTrue true
+true_is = refl
+
+pub false_is : IsTrue false → ⊥
+false_is is = cc

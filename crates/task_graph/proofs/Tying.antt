@@ -30,7 +30,7 @@ at_or_not spot (Some other) =
       | inr apart ↦ inr (λ is. apart (sym (same_some other spot is)), spot_apart spot other apart)
     ]
 
-map_behind : {X Y : Type 0} (f : X → Y) (o : Option X) (y : Y) → option_map f o ≡ Some y → (x : X) × (o ≡ Some x) × (f x ≡ y)
+pub map_behind : {X Y : Type 0} (f : X → Y) (o : Option X) (y : Y) → option_map f o ≡ Some y → (x : X) × (o ≡ Some x) × (f x ≡ y)
 map_behind f None y is = absurd (not_none None y refl is)
 map_behind f (Some x) y is = (x, refl, same_some (f x) y is)
 

@@ -1,5 +1,5 @@
 -- What is kept for each caller.
-use Rattle.std.specs.Prelude.{ℕ, Bool, slice_get, Option, None, Some}
+use Rattle.std.specs.Prelude.{ℕ, Bool, cond, nat_eq, slice_get, Option, None, Some}
 use Rattle.std.specs.Option.{option_map}
 use Rattle.task_graph.specs.declared.callers.Caller.{Caller}
 use Rattle.task_graph.specs.declared.callers.Callers.{Callers}
@@ -29,3 +29,7 @@ load_of row = record { running = row.running; stopped = row.stopped }
 -- the load of each caller
 abbrev pub load_at : (ℕ → Option Caller) → ℕ → Option Load
 load_at callers caller = option_map load_of (callers caller)
+
+-- a row with another number of Running tasks, where it is that of a caller
+abbrev pub with_running_at : ℕ → ℕ → ℕ → Caller → Caller
+with_running_at at caller running row = record row { running = cond (nat_eq at caller) running row.running }

@@ -4,17 +4,21 @@ ghost use Rattle.std.specs.Option.{option_map};
 ghost use Rattle.std.specs.HashMap.{hash_map_len};
 ghost use Rattle.task_graph.specs.Inside.{entries_at, room_of, station_at, IsSameSize};
 ghost use Rattle.task_graph.specs.Weave.{IsBeside, Middle, IsInserted, IsWithout};
-ghost use Rattle.task_graph.specs.Callers.{caller_at, bounds_at, load_at};
+ghost use Rattle.task_graph.specs.Callers.{caller_at, bounds_at, load_at, with_running_at};
 ghost use Rattle.task_graph.specs.Order.{IsOrdered, IsJustBelow, IsBehind, with_after_at, with_before_at, with_first_at, with_last_at};
 
-ghost use Rattle.std.specs.Prelude.{IsTrue, ◌↔◌};
+ghost use Rattle.std.specs.Prelude.{IsTrue, ◌↔◌, ◌^◌};
+ghost use Rattle.task_states.specs.declared.states.TaskStatus.TheVariants.{Ready, Running};
+ghost use Rattle.task_states.specs.States.{task_at, AwaitsNothing};
+ghost use Rattle.task_states.specs.Awaiters.{IsFree, IsNotAwaited, IsAwaiterFound};
+ghost use Rattle.task_states.specs.Steps.{started, given_back, with_asked, without_asked, with_stopped, removed};
 ghost use Rattle.task_graph.specs.Graphs.{graph_of, IsWhole};
 ghost use Rattle.task_states.specs.States.{status};
 ghost use Rattle.task_states.specs.Awaiters.{IsRunnable};
 
 use crate::callers::{Caller, Callers};
 use crate::entries::{Entries, Entry};
-use task_states::TaskStatus;
+use task_states::{Awaiter, TaskStatus};
 
 // All tasks, and what is kept for their callers.
 #[derive(Drop)]
@@ -167,5 +171,129 @@ impl<K: Copy> Parts<K> {
                 }
             }
         }
+    }
+
+    // Counts one Running task more, or one less, for a caller.
+    fn count(&mut self, caller: u32, running: u32)
+        requires { caller < 64 }
+        ensures entries { self.new.entries ≡ self.old.entries }
+        ensures callers { (q : ℕ) → caller_at self.new.callers q ≡ option_map (with_running_at q caller running) (caller_at self.old.callers q) }
+    {
+        let row = self.callers.get(caller);
+        self.callers.set(caller, Caller { running, ..row });
+    }
+
+    /// A worker runs a Ready task.
+    pub fn start(&mut self, task: u128, worker: u32)
+        requires whole { IsWhole self.old }
+        requires ready { status (graph_of self.old) task ≡ Ready }
+        requires few { hash_map_len self.old.entries.tasks < 2 ^ 32 }
+        ensures whole { IsWhole self.new }
+        ensures graph { graph_of self.new ≡ started (graph_of self.old) task worker }
+        ensures size { IsSameSize self.old.entries self.new.entries }
+    {
+        let entry = self.entries.get(task);
+        let row = self.callers.get(entry.caller);
+        self.entries.set_runner(task, Some(worker));
+        self.count(entry.caller, row.running + 1);
+    }
+
+    /// No worker runs a Running task any more.
+    pub fn give_back(&mut self, task: u128)
+        requires whole { IsWhole self.old }
+        requires running { status (graph_of self.old) task ≡ Running }
+        ensures whole { IsWhole self.new }
+        ensures graph { graph_of self.new ≡ given_back (graph_of self.old) task }
+        ensures size { IsSameSize self.old.entries self.new.entries }
+    {
+        let entry = self.entries.get(task);
+        let row = self.callers.get(entry.caller);
+        self.entries.set_runner(task, None);
+        self.count(entry.caller, row.running - 1);
+    }
+
+    /// The caller of a task awaits it.
+    pub fn asked(&mut self, task: u128, number: u128)
+        requires whole { IsWhole self.old }
+        requires there { IsSome (task_at (graph_of self.old) task) }
+        requires free { IsFree (graph_of self.old) number }
+        ensures whole { IsWhole self.new }
+        ensures graph { graph_of self.new ≡ with_asked (graph_of self.old) task number }
+        ensures size { IsSameSize self.old.entries self.new.entries }
+    {
+        self.entries.set_asked(task, Some(number));
+    }
+
+    /// The caller of a task awaits it no more.
+    pub fn unasked(&mut self, task: u128)
+        requires whole { IsWhole self.old }
+        requires there { IsSome (task_at (graph_of self.old) task) }
+        ensures whole { IsWhole self.new }
+        ensures graph { graph_of self.new ≡ without_asked (graph_of self.old) task }
+        ensures size { IsSameSize self.old.entries self.new.entries }
+    {
+        self.entries.set_asked(task, None);
+    }
+
+    /// The awaiter of a task with the least number; `None` where nobody awaits it.
+    pub fn awaiter(&self, task: u128) -> Option<Awaiter>
+        requires whole { IsWhole self.now }
+        requires there { IsSome (task_at (graph_of self.now) task) }
+        ensures { IsAwaiterFound (graph_of self.now) task result }
+    {
+        let entry = self.entries.get(task);
+        let asked = entry.asked.map(|number| Awaiter::Asked {
+            caller: entry.caller,
+            number,
+        });
+        let Some(spot) = entry.first else {
+            return asked;
+        };
+        let link = self.entries.link(spot);
+        match entry.asked {
+            Some(number) if number < link.number => asked,
+            _ => Some(Awaiter::Input {
+                task: spot.task,
+                place: spot.place,
+                number: link.number,
+            }),
+        }
+    }
+
+    /// A caller is stopped.
+    pub fn stop(&mut self, caller: u32)
+        requires whole { IsWhole self.old }
+        requires caller { caller < 64 }
+        ensures whole { IsWhole self.new }
+        ensures graph { graph_of self.new ≡ with_stopped (graph_of self.old) caller }
+        ensures size { IsSameSize self.old.entries self.new.entries }
+    {
+        let row = self.callers.get(caller);
+        self.callers.set(
+            caller,
+            Caller {
+                stopped: true,
+                ..row
+            },
+        );
+    }
+
+    /// A task that awaits nothing, and that nobody awaits, goes.
+    pub fn remove(&mut self, task: u128)
+        requires whole { IsWhole self.old }
+        requires there { IsSome (task_at (graph_of self.old) task) }
+        requires waits { AwaitsNothing (graph_of self.old) task }
+        requires awaited { IsNotAwaited (graph_of self.old) task }
+        ensures whole { IsWhole self.new }
+        ensures graph { graph_of self.new ≡ removed (graph_of self.old) task }
+        ensures len { hash_map_len self.new.entries.tasks + 1 ≡ hash_map_len self.old.entries.tasks }
+        ensures room { room_of self.old.entries ≤ room_of self.new.entries }
+    {
+        let entry = self.entries.get(task);
+        if entry.runner.is_some() {
+            let row = self.callers.get(entry.caller);
+            self.count(entry.caller, row.running - 1);
+        }
+        self.take(task);
     }
 }

@@ -37,6 +37,11 @@ module _ {X K : Type 0} where
     pub awaits : IsAwaiter graph task awaiter
     pub least : (other : Awaiter) → IsAwaiter graph task other → number_of awaiter ≤ number_of other
 
+  -- nothing where nobody awaits a task, and else its awaiter with the least number
+  abbrev pub IsAwaiterFound : Graph X K → ℕ → Option Awaiter → Type 0
+  IsAwaiterFound graph task None = IsNotAwaited graph task
+  IsAwaiterFound graph task (Some awaiter) = IsLeastAwaiter graph task awaiter
+
   -- no awaiter of any task has a number
   abbrev pub IsFree : Graph X K → ℕ → Type 0
   IsFree graph number = (task : ℕ) (awaiter : Awaiter) → IsAwaiter graph task awaiter → number_of awaiter ≡ number → ⊥
