@@ -29,7 +29,7 @@ module _ {X : Type 0} where
 
   pass_kept : (test : X → Bool) (o : Option X) → cond (is_some (option_and_then (λ value. cond (test value) (Some value) None) o)) 1 0 ≡ passes test o
   pass_kept test None = refl
-  pass_kept test (Some x) = elim (test x) as (λ b. cond (is_some (cond b (Some x) None)) 1 0 ≡ cond b 1 0) [ true ↦ refl | false ↦ refl ]
+  pass_kept test (Some x) = elim (test x) as (λ b. ◌≡◌ {A = ℕ} (cond (is_some (cond b (Some x) None)) 1 0) (cond b 1 0)) [ true ↦ refl | false ↦ refl ]
 
   same_rest : (test : X → Bool) (m n : map.FinMap nat_cmp X) (k : ℕ) → ((q : ℕ) → (q ≡ k → ⊥) → map.get n q ≡ map.get m q) → map.remove (kept test n) k ≡ map.remove (kept test m) k
   same_rest test m n k rest =

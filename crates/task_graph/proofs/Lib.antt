@@ -4,8 +4,10 @@ mod Changes
 mod Writing
 mod Cleaning
 mod Counting
+mod Marking
 mod Orders
 mod Queues
+mod Revising
 mod Runs
 mod Splicing
 mod Tying

@@ -5,14 +5,16 @@ use Rattle.std.specs.Ordering.{nat_cmp}
 use Rattle.std.specs.FinMap as map
 use Rattle.std.specs.FinSet as numbers
 use Rattle.cht_ids.specs.declared.refs.Ref.{Ref}
-use Rattle.task_states.specs.States.{Unfinished, Graph, running}
+use Rattle.task_states.specs.States.{Unfinished, Graph, running, is_run_for}
 use Rattle.task_states.specs.Awaiters.{IsRunnable}
 use Rattle.task_graph.specs.declared.callers.Caller.{Caller}
 use Rattle.task_graph.specs.declared.entries.Entry.{Entry}
+use Rattle.task_graph.specs.declared.entries.Link.{Link}
+use Rattle.task_graph.specs.declared.entries.Spot.{Spot}
 use Rattle.task_graph.specs.declared.parts.Parts.{Parts}
 use Rattle.task_graph.specs.declared.held.Held.{Held}
 use Rattle.task_graph.specs.Inside.{shown_entry, entries_at, station_at, room_of}
-use Rattle.task_graph.specs.Weave.{head_at, link_at, IsWoven}
+use Rattle.task_graph.specs.Weave.{head_at, link_at, IsWoven, IsUnused}
 use Rattle.task_graph.specs.Callers.{caller_at, bounds_at}
 use Rattle.task_graph.specs.Order.{IsOrdered}
 use Rattle.task_graph.specs.Queue.{is_queued, IsQueue, IsQueueLeast, queue_capacity}
@@ -38,6 +40,22 @@ module _ {K : Type 0} where
     pub short : (task : ℕ) (entry : Entry K) → entries_at parts.entries task ≡ Some entry → entry.count ≤ 4
     pub rows : length parts.callers.rows ≡ 64
     pub counted : (caller : ℕ) (row : Caller) → caller_at parts.callers caller ≡ Some row → row.running ≡ running (graph_of parts) caller
+
+  -- one task with another worker and another asked output
+  abbrev pub with_revised : Graph Ref K → ℕ → Unfinished Ref K → Option ℕ → Option ℕ → Graph Ref K
+  with_revised graph task unfinished runner asked = record graph { tasks = map.insert graph.tasks task (record unfinished { runner = runner; asked = asked }) }
+
+  -- 1 where a task is Running for a caller, else 0
+  abbrev pub run_for : ℕ → Unfinished Ref K → ℕ
+  run_for caller unfinished = cond (is_run_for caller unfinished) 1 0
+
+  -- A worker and an asked output that a task may have: no worker where an input awaits, no asked output under the number of
+  -- an awaiting input; and how many tasks of its caller are Running then.
+  pub record IsRevised (parts : Parts K) (task : ℕ) (entry : Entry K) (runner asked : Option ℕ) (running : ℕ) : Type 0 where
+    pub idle : (runner ≡ None) ⊎ ((spot : Spot) (link : Link) → link_at (entries_at parts.entries) spot ≡ Some link → spot.task ≡ task → ⊥)
+    pub free : (number : ℕ) → asked ≡ Some number → IsUnused (link_at (entries_at parts.entries)) number ⊎ (entry.asked ≡ Some number)
+    pub counted : (row : Caller) → caller_at parts.callers entry.caller ≡ Some row
+        → running + run_for entry.caller (shown_entry entry) ≡ row.running + run_for entry.caller (record (shown_entry entry) { runner = runner; asked = asked })
 
   -- Every task that can be run is among the numbers.
   abbrev pub AreQueued : Held K → Type 0

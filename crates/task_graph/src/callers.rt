@@ -1,5 +1,5 @@
 // What is kept for each caller.
-ghost use Rattle.std.specs.Prelude.{◌≡◌, ◌<◌, ℕ, cond, nat_eq, Some, None, false};
+ghost use Rattle.std.specs.Prelude.{◌≡◌, ◌<◌, ℕ, cond, nat_eq, Some, None, false, length};
 ghost use Rattle.task_graph.specs.Callers.{caller_at};
 
 // The first and the last task of a caller, how many of its tasks are Running, and whether it is stopped.
@@ -42,7 +42,8 @@ impl Callers {
     /// Writes what is kept for a caller.
     pub fn set(&mut self, caller: u32, row: Caller)
         requires { caller < 64 }
-        ensures { (q : ℕ) → caller_at self.new q ≡ cond (nat_eq q caller) (Some row) (caller_at self.old q) }
+        ensures at { (q : ℕ) → caller_at self.new q ≡ cond (nat_eq q caller) (Some row) (caller_at self.old q) }
+        ensures len { length self.new.rows ≡ length self.old.rows }
     {
         self.rows[caller as usize] = row;
     }

@@ -7,12 +7,14 @@ ghost use Rattle.task_graph.specs.Weave.{IsBeside, Middle, IsInserted, IsWithout
 ghost use Rattle.task_graph.specs.Callers.{caller_at, bounds_at, load_at, with_running_at};
 ghost use Rattle.task_graph.specs.Order.{IsOrdered, IsJustBelow, IsBehind, with_after_at, with_before_at, with_first_at, with_last_at};
 
-ghost use Rattle.std.specs.Prelude.{IsTrue, ◌↔◌, ◌^◌};
+ghost use Rattle.std.specs.Prelude.{IsTrue, ◌↔◌, ◌^◌, length};
 ghost use Rattle.task_states.specs.declared.states.TaskStatus.TheVariants.{Ready, Running};
 ghost use Rattle.task_states.specs.States.{task_at, AwaitsNothing};
 ghost use Rattle.task_states.specs.Awaiters.{IsFree, IsNotAwaited, IsAwaiterFound};
 ghost use Rattle.task_states.specs.Steps.{started, given_back, with_asked, without_asked, with_stopped, removed};
-ghost use Rattle.task_graph.specs.Graphs.{graph_of, IsWhole};
+ghost use Rattle.task_graph.specs.declared.entries.Entry.{Entry as AnyEntry};
+ghost use Rattle.task_graph.specs.Inside.{shown_entry};
+ghost use Rattle.task_graph.specs.Graphs.{graph_of, IsWhole, IsRevised, with_revised};
 ghost use Rattle.task_states.specs.States.{status};
 ghost use Rattle.task_states.specs.Awaiters.{IsRunnable};
 
@@ -178,9 +180,27 @@ impl<K: Copy> Parts<K> {
         requires { caller < 64 }
         ensures entries { self.new.entries ≡ self.old.entries }
         ensures callers { (q : ℕ) → caller_at self.new.callers q ≡ option_map (with_running_at q caller running) (caller_at self.old.callers q) }
+        ensures len { length self.new.callers.rows ≡ length self.old.callers.rows }
     {
         let row = self.callers.get(caller);
         self.callers.set(caller, Caller { running, ..row });
+    }
+
+    // Writes the worker and the asked output of a task, and how many tasks of its caller are Running then.
+    fn revise(&mut self, task: u128, runner: Option<u32>, asked: Option<u128>, running: u32)
+        requires whole { IsWhole self.old }
+        requires there { IsSome (entries_at self.old.entries task) }
+        requires revised { (entry : AnyEntry K) → entries_at self.old.entries task ≡ Some entry → IsRevised self.old task entry runner asked running }
+        ensures whole { IsWhole self.new }
+        ensures graph { (entry : AnyEntry K) → entries_at self.old.entries task ≡ Some entry → graph_of self.new ≡ with_revised (graph_of self.old) task (shown_entry entry) runner asked }
+        ensures size { IsSameSize self.old.entries self.new.entries }
+    {
+        let mut entry = self.entries.get(task);
+        let caller = entry.caller;
+        entry.runner = runner;
+        entry.asked = asked;
+        self.entries.put(task, entry);
+        self.count(caller, running);
     }
 
     /// A worker runs a Ready task.
@@ -194,8 +214,7 @@ impl<K: Copy> Parts<K> {
     {
         let entry = self.entries.get(task);
         let row = self.callers.get(entry.caller);
-        self.entries.set_runner(task, Some(worker));
-        self.count(entry.caller, row.running + 1);
+        self.revise(task, Some(worker), entry.asked, row.running + 1);
     }
 
     /// No worker runs a Running task any more.
@@ -208,12 +227,11 @@ impl<K: Copy> Parts<K> {
     {
         let entry = self.entries.get(task);
         let row = self.callers.get(entry.caller);
-        self.entries.set_runner(task, None);
-        self.count(entry.caller, row.running - 1);
+        self.revise(task, None, entry.asked, row.running - 1);
     }
 
     /// The caller of a task awaits it.
-    pub fn asked(&mut self, task: u128, number: u128)
+    pub fn ask(&mut self, task: u128, number: u128)
         requires whole { IsWhole self.old }
         requires there { IsSome (task_at (graph_of self.old) task) }
         requires free { IsFree (graph_of self.old) number }
@@ -221,18 +239,22 @@ impl<K: Copy> Parts<K> {
         ensures graph { graph_of self.new ≡ with_asked (graph_of self.old) task number }
         ensures size { IsSameSize self.old.entries self.new.entries }
     {
-        self.entries.set_asked(task, Some(number));
+        let entry = self.entries.get(task);
+        let row = self.callers.get(entry.caller);
+        self.revise(task, entry.runner, Some(number), row.running);
     }
 
     /// The caller of a task awaits it no more.
-    pub fn unasked(&mut self, task: u128)
+    pub fn unask(&mut self, task: u128)
         requires whole { IsWhole self.old }
         requires there { IsSome (task_at (graph_of self.old) task) }
         ensures whole { IsWhole self.new }
         ensures graph { graph_of self.new ≡ without_asked (graph_of self.old) task }
         ensures size { IsSameSize self.old.entries self.new.entries }
     {
-        self.entries.set_asked(task, None);
+        let entry = self.entries.get(task);
+        let row = self.callers.get(entry.caller);
+        self.revise(task, entry.runner, None, row.running);
     }
 
     /// The awaiter of a task with the least number; `None` where nobody awaits it.
@@ -292,7 +314,7 @@ impl<K: Copy> Parts<K> {
         let entry = self.entries.get(task);
         if entry.runner.is_some() {
             let row = self.callers.get(entry.caller);
-            self.count(entry.caller, row.running - 1);
+            self.revise(task, None, entry.asked, row.running - 1);
         }
         self.take(task);
     }
