@@ -5,7 +5,7 @@ use Rattle.std.specs.Ordering.{nat_cmp}
 use Rattle.std.specs.Cmp.{nat_cmp_total}
 use Rattle.std.specs.FinMap as map
 use Rattle.task_states.specs.Maps.{kept}
-use Rattle.task_states.proofs.Maps.{same_or_not, test_same, test_apart, get-kept, same_maps, get_removed}
+use Rattle.task_states.proofs.Maps.{same_or_not, test_same, test_apart, get-kept, same_maps, get_removed, len-kept}
 
 module _ {X : Type 0} where
   some_len : (a : map.FinMap nat_cmp X) (k : ℕ) (x : X) → map.get a k ≡ Some x → map.len a ≡ 0 → ⊥
@@ -49,3 +49,18 @@ module _ {X : Type 0} where
       let b = len_with (kept test n) k ∙ ap (λ o. map.len (map.remove (kept test n) k) + cond (is_some o) 1 0) (get-kept test n k) ∙ ap (λ b. map.len (map.remove (kept test n) k) + b) (pass_kept test (map.get n k)) in
       let c = ap map.len (same_rest test m n k rest) in
       omega arith
+
+abbrev one_if : Bool → ℕ
+one_if b = cond b 1 0
+
+-- one that does not pass leaves fewer than all
+pub count_less : {X : Type 0} (test : X → Bool) (m : map.FinMap nat_cmp X) (k : ℕ) (x : X) → map.get m k ≡ Some x → test x ≡ false → map.len (kept test m) + 1 ≤ map.len m
+count_less test m k x is fails =
+    let gone = λ (q : ℕ) (apart : q ≡ k → ⊥). get_removed m k q ∙ ap (λ b. cond b None (map.get m q)) (test_apart q k apart) in
+    let none : map.get (map.remove m k) k ≡ None = get_removed m k k ∙ ap (λ b. cond b None (map.get m k)) (test_same k) in
+    let counts = count_changed test m (map.remove m k) k gone in
+    let one : passes test (map.get m k) ≡ 0 = ap (passes test) is ∙ ap (λ b. one_if b) fails in
+    let two : passes test (map.get (map.remove m k) k) ≡ 0 = ap (passes test) none in
+    let most = len-kept test (map.remove m k) in
+    let all = len_with m k ∙ ap (λ o. map.len (map.remove m k) + cond (is_some o) 1 0) is in
+    omega arith

@@ -1,5 +1,5 @@
 -- Which workers and asked outputs a task may have.
-use Rattle.std.proofs.Common.{◌≡◌, ℕ, ◌+◌, ◌<◌, ◌≤◌, ◌^◌, Bool, true, false, cond, ◌&&◌, ◌||◌, Option, Some, None, is_some, IsSome, nat_eq, refl, sym, ap, subst, ◌∙◌, ◌⊎◌, inl, inr, arith, length, List, [], ◌∷◌, suc, zero}
+use Rattle.std.proofs.Common.{◌≡◌, ℕ, ◌+◌, ◌-◌, ◌<◌, ◌≤◌, ◌^◌, Bool, true, false, cond, ◌&&◌, ◌||◌, Option, Some, None, is_some, IsSome, nat_eq, refl, sym, ap, subst, ◌∙◌, ◌⊎◌, inl, inr, arith, length, List, [], ◌∷◌, suc, zero}
 use Rattle.std.specs.Prelude.{slice_get, map as each, if◌then◌else◌}
 use Rattle.std.specs.Option.{option_map}
 use Rattle.std.specs.List.{list_any}
@@ -13,7 +13,13 @@ use Rattle.task_states.specs.States.{Input, Known, Awaits as AwaitsTask, Unfinis
 use Rattle.task_states.specs.Steps.{with_task, started, given_back, with_asked, without_asked}
 use Rattle.task_states.specs.Awaiters.{IsFree}
 use Rattle.task_states.specs.Maps.{put_at}
-use Rattle.task_states.proofs.Maps.{test_same}
+use Rattle.std.specs.List.{IsDistinct}
+use Rattle.std.specs.Map.{keys_of}
+use Rattle.task_graph.specs.declared.callers.Caller.{Caller}
+use Rattle.task_graph.specs.Callers.{caller_at}
+use Rattle.task_graph.proofs.Counting.{count_changed, count_less, passes}
+use Rattle.task_graph.proofs.Views.{len-tasks_of}
+use Rattle.task_states.proofs.Maps.{test_same, test_apart, get_removed}
 use Rattle.task_graph.specs.declared.entries.Entry.{Entry}
 use Rattle.task_graph.specs.declared.entries.Link.{Link}
 use Rattle.task_graph.specs.declared.entries.Place.{Place}
@@ -21,10 +27,10 @@ use Rattle.task_graph.specs.declared.entries.Place.TheVariants.{Awaits}
 use Rattle.task_graph.specs.declared.entries.Spot.{Spot}
 use Rattle.task_graph.specs.declared.parts.Parts.{Parts}
 use Rattle.task_graph.specs.Inside.{shown_entry, shown_place, shown_at, entries_at, place_in, place_at, inputs_of}
-use Rattle.task_graph.specs.Weave.{link_at, link_of, head_of, IsUnused}
-use Rattle.task_graph.specs.Graphs.{graph_of, IsWhole, with_revised, run_for}
+use Rattle.task_graph.specs.Weave.{Head, link_at, link_of, head_of, head_at, IsUnused}
+use Rattle.task_graph.specs.Graphs.{graph_of, tasks_of, IsWhole, IsRevised, with_revised, run_for}
 use Rattle.task_graph.proofs.Chains.{not_none}
-use Rattle.task_graph.proofs.Weaving.{same_some}
+use Rattle.task_graph.proofs.Weaving.{same_some, none_or_some}
 use Rattle.task_graph.proofs.Writing.{awaits_behind}
 use Rattle.task_graph.proofs.Runs.{task_is, task_there, status_there, status_none}
 
@@ -99,3 +105,68 @@ pub unused_of : {K : Type 0} (parts : Parts K) (number : ℕ) → IsFree (graph_
 unused_of {K} parts number free spot link linked same =
     let place = awaits_behind (place_at (entries_at parts.entries) spot) link linked in
     free link.task (AtInput spot.task spot.place link.number) (input_is parts spot link place) same
+
+-- a worker for a Ready task
+pub start_revised : {K : Type 0} (parts : Parts K) (t : ℕ) (e : Entry K) (row : Caller) (worker : ℕ) → IsWhole parts → entries_at parts.entries t ≡ Some e → caller_at parts.callers e.caller ≡ Some row → status (graph_of parts) t ≡ Ready
+    → IsRevised parts t e (Some worker) e.asked (row.running + 1)
+start_revised parts t e row worker whole is at ready =
+    let own : status_of (shown_entry e) ≡ Ready = sym (status_there parts t e is) ∙ ready in
+    let none = not_waiting (shown_entry e) Ready own (λ clash. cc) in
+    let before = run_ready (shown_entry e) own in
+    let after = run_running (record (shown_entry e) { runner = Some worker; asked = e.asked }) (status_with (shown_entry e) (Some worker) e.asked true none refl) in
+    record {
+      idle = inr (no_links parts t e is none);
+      free = λ n is. inr is;
+      counted = λ other there. let one = ap (λ (r : Caller). r.running) (same_some row other (sym at ∙ there)) in omega arith;
+    }
+
+pub start_few : {K : Type 0} (parts : Parts K) (t : ℕ) (e : Entry K) (row : Caller) → IsWhole parts → entries_at parts.entries t ≡ Some e → caller_at parts.callers e.caller ≡ Some row → status (graph_of parts) t ≡ Ready
+    → IsDistinct nat_eq (keys_of parts.entries.tasks.entries) → row.running + 1 ≤ length parts.entries.tasks.entries
+start_few parts t e row whole is at ready distinct =
+    let own : status_of (shown_entry e) ≡ Ready = sym (status_there parts t e is) ∙ ready in
+    let fails : is_run_for e.caller (shown_entry e) ≡ false = ap (λ s. nat_eq e.caller e.caller && is_running s) own ∙ elim (nat_eq e.caller e.caller) as (λ b. (b && false) ≡ false) [ true ↦ refl | false ↦ refl ] in
+    let less = count_less (is_run_for e.caller) (tasks_of parts.entries.tasks.entries) t (shown_entry e) (task_there parts t e is) fails in
+    let len = len-tasks_of parts.entries.tasks.entries distinct in
+    let count = whole.counted e.caller row at in
+    omega arith
+
+-- no worker for a Running task
+pub back_revised : {K : Type 0} (parts : Parts K) (t : ℕ) (e : Entry K) (row : Caller) → IsWhole parts → entries_at parts.entries t ≡ Some e → caller_at parts.callers e.caller ≡ Some row → status (graph_of parts) t ≡ Running → 1 ≤ row.running
+    → IsRevised parts t e None e.asked (row.running - 1)
+back_revised parts t e row whole is at runs some =
+    let own : status_of (shown_entry e) ≡ Running = sym (status_there parts t e is) ∙ runs in
+    let none = not_waiting (shown_entry e) Running own (λ clash. cc) in
+    let before = run_running (shown_entry e) own in
+    let after = run_ready (record (shown_entry e) { runner = None; asked = e.asked }) (status_with (shown_entry e) None e.asked false none refl) in
+    record {
+      idle = inl refl;
+      free = λ n is. inr is;
+      counted = λ other there. let one = ap (λ (r : Caller). r.running) (same_some row other (sym at ∙ there)) in omega arith;
+    }
+
+-- a Running task is counted
+pub back_some : {K : Type 0} (parts : Parts K) (t : ℕ) (e : Entry K) (row : Caller) → IsWhole parts → entries_at parts.entries t ≡ Some e → caller_at parts.callers e.caller ≡ Some row → status (graph_of parts) t ≡ Running → 1 ≤ row.running
+back_some parts t e row whole is at runs =
+    let own : status_of (shown_entry e) ≡ Running = sym (status_there parts t e is) ∙ runs in
+    let before = run_running (shown_entry e) own in
+    let m = tasks_of parts.entries.tasks.entries in
+    let counts = count_changed (is_run_for e.caller) m (map.remove m t) t (λ q apart. get_removed m t q ∙ ap (λ b. cond b None (map.get m q)) (test_apart q t apart)) in
+    let one : passes (is_run_for e.caller) (map.get m t) ≡ run_for e.caller (shown_entry e) = ap (passes (is_run_for e.caller)) (task_there parts t e is) in
+    let two : passes (is_run_for e.caller) (map.get (map.remove m t) t) ≡ 0 = ap (passes (is_run_for e.caller)) (get_removed m t t ∙ ap (λ b. cond b None (map.get m t)) (test_same t)) in
+    let count = whole.counted e.caller row at in
+    omega arith
+
+-- another asked output
+pub ask_revised : {K : Type 0} (parts : Parts K) (t : ℕ) (e : Entry K) (row : Caller) (asked : Option ℕ) → IsWhole parts → entries_at parts.entries t ≡ Some e → caller_at parts.callers e.caller ≡ Some row
+    → ((n : ℕ) → asked ≡ Some n → IsUnused (link_at (entries_at parts.entries)) n) → IsRevised parts t e e.runner asked row.running
+ask_revised parts t e row asked whole is at free = record {
+  idle = elim (none_or_some e.runner) [
+    | inl none ↦ inl none
+    | inr some ↦ inr (λ p l linked same.
+      let h = whole.woven.home p l linked in
+      let one = same_some (head_of e) h.0 (sym (ap (head_at (entries_at parts.entries)) same ∙ ap (option_map head_of) is) ∙ h.2) in
+      not_none e.runner some.0 (ap (λ (x : Head). x.runner) one ∙ h.5) some.1)
+  ];
+  free = λ n is. inl (free n is);
+  counted = λ other there. let one = ap (λ (r : Caller). r.running) (same_some row other (sym at ∙ there)) in omega arith;
+}

@@ -37,7 +37,7 @@ link_is links spot g k is = behind_option (links spot) g k is
 pub no_row : (links : Spot → Option Link) (spot : Spot) → links spot ≡ None → row_of links spot ≡ None
 no_row links spot is = ap (option_map (λ (l : Link). (l.task, l.number))) is
 
-none_or_some : {X : Type 0} (o : Option X) → (o ≡ None) ⊎ ((x : X) × (o ≡ Some x))
+pub none_or_some : {X : Type 0} (o : Option X) → (o ≡ None) ⊎ ((x : X) × (o ≡ Some x))
 none_or_some None = inl refl
 none_or_some (Some x) = inr (x, refl)
 

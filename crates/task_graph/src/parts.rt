@@ -212,6 +212,7 @@ impl<K: Copy> Parts<K> {
         ensures graph { graph_of self.new ≡ started (graph_of self.old) task worker }
         ensures size { IsSameSize self.old.entries self.new.entries }
     {
+        let _few = self.entries.tasks.len();
         let entry = self.entries.get(task);
         let row = self.callers.get(entry.caller);
         self.revise(task, Some(worker), entry.asked, row.running + 1);
