@@ -12,6 +12,7 @@ besides a b c one two = record {
   links = λ p. two.links p ∙ one.links p;
   places = λ p. two.places p ∙ one.places p;
   shown = λ q. two.shown q ∙ one.shown q;
+  counts = λ q. two.counts q ∙ one.counts q;
 }
 
 some_behind : {X Y : Type 0} (f : X → Y) (o : Option X) (y : Y) → option_map f o ≡ Some y → IsSome o

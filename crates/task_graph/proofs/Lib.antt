@@ -4,6 +4,7 @@ mod Changes
 mod Writing
 mod Cleaning
 mod Counting
+mod Keeping
 mod Marking
 mod Orders
 mod Queues

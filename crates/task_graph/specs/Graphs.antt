@@ -13,8 +13,8 @@ use Rattle.task_graph.specs.declared.entries.Link.{Link}
 use Rattle.task_graph.specs.declared.entries.Spot.{Spot}
 use Rattle.task_graph.specs.declared.parts.Parts.{Parts}
 use Rattle.task_graph.specs.declared.held.Held.{Held}
-use Rattle.task_graph.specs.Inside.{shown_entry, entries_at, station_at, room_of}
-use Rattle.task_graph.specs.Weave.{head_at, link_at, IsWoven, IsUnused}
+use Rattle.task_graph.specs.Inside.{shown_entry, place_in, entries_at, station_at, room_of}
+use Rattle.task_graph.specs.Weave.{head_at, link_at, link_of, IsWoven, IsUnused}
 use Rattle.task_graph.specs.Callers.{caller_at, bounds_at}
 use Rattle.task_graph.specs.Order.{IsOrdered}
 use Rattle.task_graph.specs.Queue.{is_queued, IsQueue, IsQueueLeast, queue_capacity}
@@ -56,6 +56,23 @@ module _ {K : Type 0} where
     pub free : (number : ℕ) → asked ≡ Some number → IsUnused (link_at (entries_at parts.entries)) number ⊎ (entry.asked ≡ Some number)
     pub counted : (row : Caller) → caller_at parts.callers entry.caller ≡ Some row
         → running + run_for entry.caller (shown_entry entry) ≡ row.running + run_for entry.caller (record (shown_entry entry) { runner = runner; asked = asked })
+
+  -- a task that no worker runs, that awaits nothing and that nobody awaits
+  pub record IsIdle (parts : Parts K) (task : ℕ) : Type 0 where
+    pub entry : Entry K
+    pub there : entries_at parts.entries task ≡ Some entry
+    pub idle : entry.runner ≡ None
+    pub waits : (spot : Spot) (link : Link) → link_at (entries_at parts.entries) spot ≡ Some link → spot.task ≡ task → ⊥
+    pub awaited : (spot : Spot) (link : Link) → link_at (entries_at parts.entries) spot ≡ Some link → link.task ≡ task → ⊥
+
+  -- an entry of at most four inputs, which awaits nothing, which no worker runs and nobody awaits
+  pub record IsBare (entry : Entry K) : Type 0 where
+    pub idle : entry.runner ≡ None
+    pub asked : entry.asked ≡ None
+    pub first : entry.first ≡ None
+    pub last : entry.last ≡ None
+    pub short : entry.count ≤ 4
+    pub known : (place : ℕ) → link_of (place_in (Some entry) place) ≡ None
 
   -- Every task that can be run is among the numbers.
   abbrev pub AreQueued : Held K → Type 0

@@ -177,12 +177,17 @@ pub record IsLeft (heads new_heads : ℕ → Option Head) (links new_links : Spo
   pub asked_apart : (spot : Spot) (link : Link) (task : ℕ) (head : Head) (number : ℕ)
       → new_links spot ≡ Some link → new_heads task ≡ Some head → head.asked ≡ Some number → link.number ≡ number → ⊥
 
+-- how many inputs an entry has
+abbrev pub count_of : {K : Type 0} → Entry K → ℕ
+count_of entry = entry.count
+
 -- entries that differ in no more than how the tasks of a caller are linked
 pub record IsBeside {K : Type 0} (old new : ℕ → Option (Entry K)) : Type 0 where
   pub heads : (q : ℕ) → head_at new q ≡ head_at old q
   pub links : (spot : Spot) → link_at new spot ≡ link_at old spot
   pub places : (spot : Spot) → place_at new spot ≡ place_at old spot
   pub shown : (q : ℕ) → shown_at new q ≡ shown_at old q
+  pub counts : (q : ℕ) → option_map count_of (new q) ≡ option_map count_of (old q)
 
 -- entries by number
 abbrev pub Middle : Type 0 → Type 0

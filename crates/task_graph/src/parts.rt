@@ -11,10 +11,10 @@ ghost use Rattle.std.specs.Prelude.{IsTrue, ◌↔◌, ◌^◌, length};
 ghost use Rattle.task_states.specs.declared.states.TaskStatus.TheVariants.{Ready, Running};
 ghost use Rattle.task_states.specs.States.{task_at, AwaitsNothing};
 ghost use Rattle.task_states.specs.Awaiters.{IsFree, IsNotAwaited, IsAwaiterFound};
-ghost use Rattle.task_states.specs.Steps.{started, given_back, with_asked, without_asked, with_stopped, removed};
+ghost use Rattle.task_states.specs.Steps.{started, given_back, with_asked, without_asked, with_stopped, removed, added};
 ghost use Rattle.task_graph.specs.declared.entries.Entry.{Entry as AnyEntry};
 ghost use Rattle.task_graph.specs.Inside.{shown_entry};
-ghost use Rattle.task_graph.specs.Graphs.{graph_of, IsWhole, IsRevised, with_revised};
+ghost use Rattle.task_graph.specs.Graphs.{graph_of, IsWhole, IsRevised, with_revised, IsIdle, IsBare};
 ghost use Rattle.task_states.specs.States.{status};
 ghost use Rattle.task_states.specs.Awaiters.{IsRunnable};
 
@@ -74,6 +74,7 @@ impl<K: Copy> Parts<K> {
         ensures stations { (q : ℕ) → station_at (entries_at self.new.entries) q ≡ option_map (with_after_at q before to) (station_at (entries_at self.old.entries) q) }
         ensures bounds { (q : ℕ) → bounds_at (caller_at self.new.callers) q ≡ option_map (with_first_at q caller before to) (bounds_at (caller_at self.old.callers) q) }
         ensures load { (q : ℕ) → load_at (caller_at self.new.callers) q ≡ load_at (caller_at self.old.callers) q }
+        ensures rows { length self.new.callers.rows ≡ length self.old.callers.rows }
         ensures beside { IsBeside (entries_at self.old.entries) (entries_at self.new.entries) }
         ensures size { IsSameSize self.old.entries self.new.entries }
     {
@@ -93,6 +94,7 @@ impl<K: Copy> Parts<K> {
         ensures stations { (q : ℕ) → station_at (entries_at self.new.entries) q ≡ option_map (with_before_at q after to) (station_at (entries_at self.old.entries) q) }
         ensures bounds { (q : ℕ) → bounds_at (caller_at self.new.callers) q ≡ option_map (with_last_at q caller after to) (bounds_at (caller_at self.old.callers) q) }
         ensures load { (q : ℕ) → load_at (caller_at self.new.callers) q ≡ load_at (caller_at self.old.callers) q }
+        ensures rows { length self.new.callers.rows ≡ length self.old.callers.rows }
         ensures beside { IsBeside (entries_at self.old.entries) (entries_at self.new.entries) }
         ensures size { IsSameSize self.old.entries self.new.entries }
     {
@@ -114,6 +116,7 @@ impl<K: Copy> Parts<K> {
         ensures ordered { IsOrdered (bounds_at (caller_at self.new.callers)) (station_at (entries_at self.new.entries)) }
         ensures beside { (middle : Middle K) × IsInserted (entries_at self.old.entries) middle task entry × IsBeside middle (entries_at self.new.entries) }
         ensures load { (q : ℕ) → load_at (caller_at self.new.callers) q ≡ load_at (caller_at self.old.callers) q }
+        ensures rows { length self.new.callers.rows ≡ length self.old.callers.rows }
         ensures len { hash_map_len self.new.entries.tasks ≡ hash_map_len self.old.entries.tasks + 1 }
         ensures room { room_of self.old.entries ≤ room_of self.new.entries + 1 }
     {
@@ -137,6 +140,7 @@ impl<K: Copy> Parts<K> {
         ensures ordered { IsOrdered (bounds_at (caller_at self.new.callers)) (station_at (entries_at self.new.entries)) }
         ensures beside { (middle : Middle K) × IsWithout (entries_at self.old.entries) middle task × IsBeside middle (entries_at self.new.entries) }
         ensures load { (q : ℕ) → load_at (caller_at self.new.callers) q ≡ load_at (caller_at self.old.callers) q }
+        ensures rows { length self.new.callers.rows ≡ length self.old.callers.rows }
         ensures len { hash_map_len self.new.entries.tasks + 1 ≡ hash_map_len self.old.entries.tasks }
         ensures room { room_of self.old.entries ≤ room_of self.new.entries }
     {
@@ -301,6 +305,18 @@ impl<K: Copy> Parts<K> {
         );
     }
 
+    // A task goes that no worker runs, that awaits nothing and that nobody awaits.
+    fn take_idle(&mut self, task: u128)
+        requires whole { IsWhole self.old }
+        requires idle { IsIdle self.old task }
+        ensures whole { IsWhole self.new }
+        ensures graph { graph_of self.new ≡ removed (graph_of self.old) task }
+        ensures len { hash_map_len self.new.entries.tasks + 1 ≡ hash_map_len self.old.entries.tasks }
+        ensures room { room_of self.old.entries ≤ room_of self.new.entries }
+    {
+        self.take(task);
+    }
+
     /// A task that awaits nothing, and that nobody awaits, goes.
     pub fn remove(&mut self, task: u128)
         requires whole { IsWhole self.old }
@@ -314,9 +330,23 @@ impl<K: Copy> Parts<K> {
     {
         let entry = self.entries.get(task);
         if entry.runner.is_some() {
-            let row = self.callers.get(entry.caller);
-            self.revise(task, None, entry.asked, row.running - 1);
+            self.give_back(task);
         }
-        self.take(task);
+        self.take_idle(task);
+    }
+
+    // One more task that awaits nothing yet.
+    fn place_idle(&mut self, task: u128, entry: Entry<K>)
+        requires whole { IsWhole self.old }
+        requires caller { entry.caller < 64 }
+        requires new { entries_at self.old.entries task ≡ None }
+        requires bare { IsBare entry }
+        requires room { 0 < room_of self.old.entries }
+        ensures whole { IsWhole self.new }
+        ensures graph { graph_of self.new ≡ added (graph_of self.old) task entry.caller entry.kind (shown_entry entry).inputs }
+        ensures len { hash_map_len self.new.entries.tasks ≡ hash_map_len self.old.entries.tasks + 1 }
+        ensures room { room_of self.old.entries ≤ room_of self.new.entries + 1 }
+    {
+        self.place(task, entry);
     }
 }
