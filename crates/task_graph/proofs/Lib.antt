@@ -1,3 +1,4 @@
+mod Awaiting
 mod Besides
 mod Chains
 mod Changes

@@ -97,7 +97,7 @@ input_of : {K : Type 0} (o : Option (Entry K)) (j : ℕ) (link : Link) → place
 input_of None j link is = absurd (not_none None (Awaits link) refl is)
 input_of (Some e) j link is = get_shown (inputs_of e) j link is
 
-input_is : {K : Type 0} (parts : Parts K) (spot : Spot) (link : Link) → place_at (entries_at parts.entries) spot ≡ Some (Awaits link) → input_at (graph_of parts) spot.task spot.place ≡ Some (AwaitsTask link.task link.number)
+pub input_is : {K : Type 0} (parts : Parts K) (spot : Spot) (link : Link) → place_at (entries_at parts.entries) spot ≡ Some (Awaits link) → input_at (graph_of parts) spot.task spot.place ≡ Some (AwaitsTask link.task link.number)
 input_is parts spot link place = ap (λ o. elim o as (λ _. Option (Input Ref)) [ None ↦ None | Some task ↦ slice_get task.inputs spot.place ]) (task_is parts spot.task) ∙ input_of (entries_at parts.entries spot.task) spot.place link place
 
 -- a number that no awaiter has

@@ -2,7 +2,7 @@
 ghost use Rattle.std.specs.Prelude.{◌≡◌, ◌<◌, ◌≤◌, ◌+◌, ℕ, Some, None, IsSome};
 ghost use Rattle.std.specs.Option.{option_map};
 ghost use Rattle.std.specs.HashMap.{hash_map_len};
-ghost use Rattle.task_graph.specs.Inside.{entries_at, room_of, station_at, IsSameSize};
+ghost use Rattle.task_graph.specs.Inside.{entries_at, put_in, room_of, station_at, IsSameSize};
 ghost use Rattle.task_graph.specs.Weave.{IsBeside, Middle, IsInserted, IsWithout};
 ghost use Rattle.task_graph.specs.Callers.{caller_at, bounds_at, load_at, with_running_at};
 ghost use Rattle.task_graph.specs.Order.{IsOrdered, IsJustBelow, IsBehind, with_after_at, with_before_at, with_first_at, with_last_at};
@@ -196,6 +196,8 @@ impl<K: Copy> Parts<K> {
         requires there { IsSome (entries_at self.old.entries task) }
         requires revised { (entry : AnyEntry K) → entries_at self.old.entries task ≡ Some entry → IsRevised self.old task entry runner asked running }
         ensures whole { IsWhole self.new }
+        ensures at { (entry : AnyEntry K) → entries_at self.old.entries task ≡ Some entry
+            → (q : ℕ) → entries_at self.new.entries q ≡ put_in task (record entry { runner = runner; asked = asked }) (entries_at self.old.entries) q }
         ensures graph { (entry : AnyEntry K) → entries_at self.old.entries task ≡ Some entry → graph_of self.new ≡ with_revised (graph_of self.old) task (shown_entry entry) runner asked }
         ensures size { IsSameSize self.old.entries self.new.entries }
     {
@@ -269,21 +271,35 @@ impl<K: Copy> Parts<K> {
         ensures { IsAwaiterFound (graph_of self.now) task result }
     {
         let entry = self.entries.get(task);
-        let asked = entry.asked.map(|number| Awaiter::Asked {
-            caller: entry.caller,
-            number,
-        });
-        let Some(spot) = entry.first else {
-            return asked;
-        };
-        let link = self.entries.link(spot);
-        match entry.asked {
-            Some(number) if number < link.number => asked,
-            _ => Some(Awaiter::Input {
-                task: spot.task,
-                place: spot.place,
-                number: link.number,
-            }),
+        match entry.first {
+            None => match entry.asked {
+                None => None,
+                Some(number) => Some(Awaiter::Asked {
+                    caller: entry.caller,
+                    number,
+                }),
+            },
+            Some(spot) => {
+                let link = self.entries.link(spot);
+                let input = Awaiter::Input {
+                    task: spot.task,
+                    place: spot.place,
+                    number: link.number,
+                };
+                match entry.asked {
+                    None => Some(input),
+                    Some(number) => {
+                        if number < link.number {
+                            Some(Awaiter::Asked {
+                                caller: entry.caller,
+                                number,
+                            })
+                        } else {
+                            Some(input)
+                        }
+                    }
+                }
+            }
         }
     }
 
@@ -330,9 +346,12 @@ impl<K: Copy> Parts<K> {
     {
         let entry = self.entries.get(task);
         if entry.runner.is_some() {
-            self.give_back(task);
+            let row = self.callers.get(entry.caller);
+            self.revise(task, None, entry.asked, row.running - 1);
+            self.take_idle(task);
+        } else {
+            self.take_idle(task);
         }
-        self.take_idle(task);
     }
 
     // One more task that awaits nothing yet.
