@@ -50,7 +50,7 @@ map_same : {X Y : Type 0} (f g : X → Y) → ((x : X) → f x ≡ g x) → (o :
 map_same f g same None = refl
 map_same f g same (Some x) = ap Some (same x)
 
-map_id : {X : Type 0} (f : X → X) → ((x : X) → f x ≡ x) → (o : Option X) → option_map f o ≡ o
+pub map_id : {X : Type 0} (f : X → X) → ((x : X) → f x ≡ x) → (o : Option X) → option_map f o ≡ o
 map_id f same None = refl
 map_id f same (Some x) = ap Some (same x)
 

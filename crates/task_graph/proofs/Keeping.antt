@@ -12,14 +12,22 @@ use Rattle.cht_ids.specs.declared.refs.Ref.{Ref}
 use Rattle.task_states.specs.States.{Unfinished, Graph, is_run_for, running, is_running, status_of, task_at, is_awaiting}
 use Rattle.task_states.specs.Steps.{removed, added, with_stopped}
 use Rattle.task_states.proofs.Maps.{same_or_not, test_same, test_apart, same_maps, get_inserted, get_removed}
+use Rattle.task_states.specs.States.{Input}
+use Rattle.task_states.specs.Steps.{with_task}
+use Rattle.task_states.specs.Maps.{put_at, kept}
+use Rattle.std.specs.Prelude.{set}
+use Rattle.task_graph.specs.declared.callers.Callers.{Callers}
+use Rattle.task_graph.specs.Inside.{with_input}
+use Rattle.task_graph.proofs.Changes.{tasks_changed, map_id}
 use Rattle.task_graph.specs.declared.callers.Caller.{Caller}
 use Rattle.task_graph.specs.declared.entries.Entry.{Entry}
+use Rattle.task_graph.specs.declared.entries.Entries.{Entries}
 use Rattle.task_graph.specs.declared.entries.Link.{Link}
 use Rattle.task_graph.specs.declared.entries.Spot.{Spot}
 use Rattle.task_graph.specs.declared.parts.Parts.{Parts}
 use Rattle.task_graph.specs.Weave.{Head, IsWoven, IsLeft, IsBeside, IsInserted, IsWithout, Middle, link_of, link_at, head_at, head_of, count_of}
 use Rattle.task_graph.specs.Inside.{shown_entry, shown_at, entries_at, place_in, place_at, station_at}
-use Rattle.task_graph.specs.Callers.{caller_at, bounds_at, load_at, load_of, Load}
+use Rattle.task_graph.specs.Callers.{caller_at, bounds_at, bounds_of, load_at, load_of, Load}
 use Rattle.task_graph.specs.Order.{IsOrdered}
 use Rattle.task_graph.specs.Graphs.{tasks_of, graph_of, stopped_from, IsWhole, IsIdle, IsBare}
 use Rattle.task_graph.proofs.Chains.{not_none}
@@ -231,4 +239,92 @@ module _ {K : Type 0} (old new : Parts K) (middle : Middle K) (t : ℕ) (entry :
     counted = counted_stays old new middle beside load len whole t placed_other
       (λ c. ap (passes (is_run_for c)) (task_is old t ∙ ap (option_map shown_entry) fresh))
       (λ c. ap (passes (is_run_for c)) (tasks_are old new middle beside load len t ∙ ap (option_map shown_entry) placed_here) ∙ idle_passes c (shown_entry placed) bare.idle);
+  }
+
+-- an input that is written into a task that no worker runs
+module _ {K : Type 0} (old new : Parts K) (spot : Spot) (input : Input Ref) (whole : IsWhole old) (e : Entry K) (is : entries_at old.entries spot.task ≡ Some e) (idle : e.runner ≡ None) (same : new.callers ≡ old.callers)
+  (woven : IsWoven (head_at (entries_at new.entries)) (link_at (entries_at new.entries))) (stations : (q : ℕ) → station_at (entries_at new.entries) q ≡ station_at (entries_at old.entries) q)
+  (shown : (q : ℕ) → shown_at (entries_at new.entries) q ≡ option_map (with_input q spot input) (shown_at (entries_at old.entries) q)) (counts : (q : ℕ) → option_map count_of (entries_at new.entries q) ≡ option_map count_of (entries_at old.entries q)) where
+  written : Unfinished Ref K → Unfinished Ref K
+  written u = record u { inputs = set u.inputs spot.place input }
+
+  pub written-tasks : tasks_of new.entries.tasks.entries ≡ put_at (tasks_of old.entries.tasks.entries) spot.task (option_map (λ (u : Unfinished Ref K). record u { inputs = set u.inputs spot.place input }) (map.get (tasks_of old.entries.tasks.entries) spot.task))
+  written-tasks =
+      tasks_changed (tasks_of old.entries.tasks.entries) (tasks_of new.entries.tasks.entries) spot.task (λ (u : Unfinished Ref K). record u { inputs = set u.inputs spot.place input }) (λ q. with_input q spot input)
+      (λ q. task_is new q ∙ shown q ∙ ap (option_map (with_input q spot input)) (sym (task_is old q)))
+      (λ u. ap (λ b. record u { inputs = cond b (set u.inputs spot.place input) u.inputs }) (test_same spot.task))
+      (λ q u apart. ap (λ b. record u { inputs = cond b (set u.inputs spot.place input) u.inputs }) (test_apart q spot.task apart))
+
+  pub written-graph : graph_of new ≡ with_task (graph_of old) spot.task (λ (u : Unfinished Ref K). record u { inputs = set u.inputs spot.place input })
+  written-graph = λ i. record { tasks = written-tasks i; stopped = stopped_from 0 (same i).rows }
+
+  here_shown : map.get (tasks_of new.entries.tasks.entries) spot.task ≡ Some (with_input spot.task spot input (shown_entry e))
+  here_shown = task_is new spot.task ∙ shown spot.task ∙ ap (λ o. option_map (with_input spot.task spot input) (option_map shown_entry o)) is
+
+  rest_shown : (q : ℕ) → (q ≡ spot.task → ⊥) → map.get (tasks_of new.entries.tasks.entries) q ≡ map.get (tasks_of old.entries.tasks.entries) q
+  rest_shown q apart = task_is new q ∙ shown q ∙ map_id (with_input q spot input) (λ u. ap (λ b. record u { inputs = cond b (set u.inputs spot.place input) u.inputs }) (test_apart q spot.task apart)) (shown_at (entries_at old.entries) q) ∙ sym (task_is old q)
+
+  pub written-whole : IsWhole new
+  written-whole = record {
+    woven = woven;
+    ordered = subst (λ s. IsOrdered (bounds_at (caller_at new.callers)) s) (λ i q. sym (stations q) i) (subst (λ b. IsOrdered b (station_at (entries_at old.entries))) (λ i q. bounds_at (caller_at (sym same i)) q) whole.ordered);
+    short = λ q x at. let b = map_behind count_of (entries_at old.entries q) x.count (sym (counts q) ∙ ap (option_map count_of) at) in subst (λ n. n ≤ 4) b.2 (whole.short q b.0 b.1);
+    rows = ap (λ (c : Callers). length c.rows) same ∙ whole.rows;
+    counted = λ c row at.
+    let moved = count_changed (is_run_for c) (tasks_of old.entries.tasks.entries) (tasks_of new.entries.tasks.entries) spot.task rest_shown in
+    let before : passes (is_run_for c) (map.get (tasks_of old.entries.tasks.entries) spot.task) ≡ 0 = ap (passes (is_run_for c)) (task_there old spot.task e is) ∙ idle_passes c (shown_entry e) idle in
+    let after : passes (is_run_for c) (map.get (tasks_of new.entries.tasks.entries) spot.task) ≡ 0 = ap (passes (is_run_for c)) here_shown ∙ idle_passes c (with_input spot.task spot input (shown_entry e)) idle in
+    let was = whole.counted c row (ap (λ (x : Callers). caller_at x c) (sym same) ∙ at) in
+    omega arith;
+  }
+
+-- an entry behind a head
+pub entry_behind_head : {K : Type 0} (entries : ℕ → Option (Entry K)) (q : ℕ) (h : Head) → head_at entries q ≡ Some h → (e : Entry K) × (entries q ≡ Some e) × (head_of e ≡ h)
+entry_behind_head entries q h is = map_behind head_of (entries q) h is
+
+-- a caller that is stopped
+module _ {K : Type 0} (old new : Parts K) (c : ℕ) (row : Caller) (whole : IsWhole old) (is : caller_at old.callers c ≡ Some row) (same : new.entries ≡ old.entries)
+  (puts : (q : ℕ) → caller_at new.callers q ≡ cond (nat_eq q c) (Some (record row { stopped = true })) (caller_at old.callers q)) (len : length new.callers.rows ≡ length old.callers.rows) where
+  row_of_new : (q : ℕ) (r : Caller) → caller_at new.callers q ≡ Some r → (was : Caller) × (caller_at old.callers q ≡ Some was) × (bounds_of r ≡ bounds_of was) × (r.running ≡ was.running)
+  row_of_new q r at =
+      elim (same_or_not q c) [
+        | inl here ↦
+          let one : record row { stopped = true } ≡ r = same_some _ r (sym (ap (λ b. cond b (Some (record row { stopped = true })) (caller_at old.callers q)) (ap (λ k. nat_eq k c) here ∙ test_same c)) ∙ sym (puts q) ∙ at) in
+          (row, ap (caller_at old.callers) here ∙ is, ap bounds_of (sym one), ap (λ (x : Caller). x.running) (sym one))
+        | inr apart ↦ (r, sym (ap (λ b. cond b (Some (record row { stopped = true })) (caller_at old.callers q)) (test_apart q c apart)) ∙ sym (puts q) ∙ at, refl, refl)
+      ]
+
+  bounds_same : (q : ℕ) → bounds_at (caller_at new.callers) q ≡ bounds_at (caller_at old.callers) q
+  bounds_same q =
+      ap (option_map bounds_of) (puts q)
+      ∙ elim (same_or_not q c) [
+        | inl here ↦ ap (λ b. option_map bounds_of (cond b (Some (record row { stopped = true })) (caller_at old.callers q))) (ap (λ k. nat_eq k c) here ∙ test_same c) ∙ sym (ap (option_map bounds_of) (ap (caller_at old.callers) here ∙ is))
+        | inr apart ↦ ap (λ b. option_map bounds_of (cond b (Some (record row { stopped = true })) (caller_at old.callers q))) (test_apart q c apart)
+      ]
+
+  -- which are stopped then
+  pub stopped_more : stopped_from 0 new.callers.rows ≡ numbers.insert (stopped_from 0 old.callers.rows) c
+  stopped_more = numbers.same_set nat_cmp_total map.nat_cmp-IsAntisymmetric _ _ (λ q.
+      has-stopped new.callers.rows q
+      ∙ ap flag (puts q)
+      ∙ elim (same_or_not q c) [
+        | inl here ↦ let test : nat_eq q c ≡ true = ap (λ k. nat_eq k c) here ∙ test_same c in
+          ap (λ b. flag (cond b (Some (record row { stopped = true })) (caller_at old.callers q))) test ∙ sym (ap (λ b. b || has (stopped_from 0 old.callers.rows) q) test)
+        | inr apart ↦ let test = test_apart q c apart in
+          ap (λ b. flag (cond b (Some (record row { stopped = true })) (caller_at old.callers q))) test ∙ sym (has-stopped old.callers.rows q) ∙ sym (ap (λ b. b || has (stopped_from 0 old.callers.rows) q) test)
+      ]
+      ∙ sym (has_inserted (stopped_from 0 old.callers.rows) c q))
+
+  pub stop-graph : graph_of new ≡ with_stopped (graph_of old) c
+  stop-graph = λ i. record { tasks = tasks_of (same i).tasks.entries; stopped = stopped_more i }
+
+  pub stop-whole : IsWhole new
+  stop-whole = record {
+    woven = subst (λ es. IsWoven (head_at (entries_at es)) (link_at (entries_at es))) (sym same) whole.woven;
+    ordered = subst (λ es. IsOrdered (bounds_at (caller_at new.callers)) (station_at (entries_at es))) (sym same) (subst (λ b. IsOrdered b (station_at (entries_at old.entries))) (λ i q. sym (bounds_same q) i) whole.ordered);
+    short = λ q e at. whole.short q e (ap (λ es. entries_at es q) (sym same) ∙ at);
+    rows = len ∙ whole.rows;
+    counted = λ q r at.
+    let b = row_of_new q r at in
+    b.3 ∙ whole.counted q b.0 b.1 ∙ ap (λ (es : Entries K). map.len (kept (is_run_for q) (tasks_of es.tasks.entries))) (sym same);
   }

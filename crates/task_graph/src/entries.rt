@@ -6,7 +6,7 @@ ghost use Rattle.std.specs.List.{list_any};
 ghost use Rattle.task_states.specs.States.{is_awaiting, status_of};
 ghost use Rattle.task_graph.specs.declared.entries.Spot.{Spot as AnySpot};
 ghost use Rattle.task_graph.specs.Inside.{entries_at, put_in, room_of, IsSameSize, shown_place, place_at, is_spot, with_input, shown_at, station_at, with_runner_at, with_asked_at, shown_entry};
-ghost use Rattle.task_graph.specs.Weave.{head_at, link_at, with_next, with_ends, IsBeside};
+ghost use Rattle.task_graph.specs.Weave.{head_at, link_at, with_next, with_ends, IsBeside, count_of};
 ghost use Rattle.task_graph.specs.Order.{with_after_at, with_before_at};
 
 
@@ -113,6 +113,7 @@ impl<K: Copy> Entries<K> {
         ensures heads { (q : ℕ) → head_at (entries_at self.new) q ≡ head_at (entries_at self.old) q }
         ensures shown { (q : ℕ) → shown_at (entries_at self.new) q ≡ option_map (with_input q spot (shown_place place)) (shown_at (entries_at self.old) q) }
         ensures stations { (q : ℕ) → station_at (entries_at self.new) q ≡ station_at (entries_at self.old) q }
+        ensures counts { (q : ℕ) → option_map count_of (entries_at self.new q) ≡ option_map count_of (entries_at self.old q) }
         ensures size { IsSameSize self.old self.new }
     {
         let mut entry = self.get(spot.task);
@@ -127,6 +128,7 @@ impl<K: Copy> Entries<K> {
         ensures heads { (q : ℕ) → head_at (entries_at self.new) q ≡ head_at (entries_at self.old) q }
         ensures shown { (q : ℕ) → shown_at (entries_at self.new) q ≡ shown_at (entries_at self.old) q }
         ensures stations { (q : ℕ) → station_at (entries_at self.new) q ≡ station_at (entries_at self.old) q }
+        ensures counts { (q : ℕ) → option_map count_of (entries_at self.new q) ≡ option_map count_of (entries_at self.old q) }
         ensures size { IsSameSize self.old self.new }
     {
         let link = self.link(spot);
@@ -140,6 +142,7 @@ impl<K: Copy> Entries<K> {
         ensures heads { (q : ℕ) → head_at (entries_at self.new) q ≡ option_map (with_ends q task first last) (head_at (entries_at self.old) q) }
         ensures shown { (q : ℕ) → shown_at (entries_at self.new) q ≡ shown_at (entries_at self.old) q }
         ensures stations { (q : ℕ) → station_at (entries_at self.new) q ≡ station_at (entries_at self.old) q }
+        ensures counts { (q : ℕ) → option_map count_of (entries_at self.new q) ≡ option_map count_of (entries_at self.old q) }
         ensures size { IsSameSize self.old self.new }
     {
         let mut entry = self.get(task);

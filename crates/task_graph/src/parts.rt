@@ -7,7 +7,13 @@ ghost use Rattle.task_graph.specs.Weave.{IsBeside, Middle, IsInserted, IsWithout
 ghost use Rattle.task_graph.specs.Callers.{caller_at, bounds_at, load_at, with_running_at};
 ghost use Rattle.task_graph.specs.Order.{IsOrdered, IsJustBelow, IsBehind, with_after_at, with_before_at, with_first_at, with_last_at};
 
-ghost use Rattle.std.specs.Prelude.{IsTrue, ◌↔◌, ◌^◌, length};
+ghost use Rattle.std.specs.Prelude.{IsTrue, ◌↔◌, ◌^◌, length, set};
+ghost use Rattle.task_states.specs.States.{Known as KnownInput, Awaits as AwaitsTask};
+ghost use Rattle.task_states.specs.Steps.{with_task};
+ghost use Rattle.task_graph.specs.Weave.{head_at, link_at, IsFirst, IsUntied, IsTied, IsAtHome, IsUnused, IsUnasked};
+ghost use Rattle.std.specs.Prelude.{Option};
+ghost use Rattle.task_graph.specs.declared.entries.Spot.{Spot as AnySpot};
+ghost use Rattle.task_graph.specs.Inside.{place_at};
 ghost use Rattle.task_states.specs.declared.states.TaskStatus.TheVariants.{Ready, Running};
 ghost use Rattle.task_states.specs.States.{task_at, AwaitsNothing};
 ghost use Rattle.task_states.specs.Awaiters.{IsFree, IsNotAwaited, IsAwaiterFound};
@@ -19,7 +25,8 @@ ghost use Rattle.task_states.specs.States.{status};
 ghost use Rattle.task_states.specs.Awaiters.{IsRunnable};
 
 use crate::callers::{Caller, Callers};
-use crate::entries::{Entries, Entry};
+use crate::entries::{Entries, Entry, Link, Spot};
+use cht_ids::Ref;
 use task_states::{Awaiter, TaskStatus};
 
 // All tasks, and what is kept for their callers.
@@ -301,6 +308,36 @@ impl<K: Copy> Parts<K> {
                 }
             }
         }
+    }
+
+    // The first input that awaits a task gets a reference. Answers what it awaited.
+    fn settle(&mut self, spot: Spot, r: Ref) -> Link
+        requires whole { IsWhole self.old }
+        requires first { IsFirst (head_at (entries_at self.old.entries)) (link_at (entries_at self.old.entries)) spot }
+        ensures whole { IsWhole self.new }
+        ensures link { link_at (entries_at self.old.entries) spot ≡ Some result }
+        ensures untied { IsUntied (head_at (entries_at self.old.entries)) (head_at (entries_at self.new.entries)) (link_at (entries_at self.old.entries)) (link_at (entries_at self.new.entries)) spot result }
+        ensures graph { graph_of self.new ≡ with_task (graph_of self.old) spot.task (λ u. record u { inputs = set u.inputs spot.place (KnownInput r) }) }
+        ensures size { IsSameSize self.old.entries self.new.entries }
+    {
+        self.entries.settle(spot, r)
+    }
+
+    // An input that does not await comes to await a task of the same caller, under a number that no awaiter has.
+    fn join(&mut self, spot: Spot, task: u128, number: u128)
+        requires whole { IsWhole self.old }
+        requires there { IsSome (place_at (entries_at self.old.entries) spot) }
+        requires free { link_at (entries_at self.old.entries) spot ≡ None }
+        requires home { IsAtHome (head_at (entries_at self.old.entries)) spot.task task }
+        requires unused { IsUnused (link_at (entries_at self.old.entries)) number }
+        requires unasked { IsUnasked (head_at (entries_at self.old.entries)) number }
+        ensures whole { IsWhole self.new }
+        ensures tied { (before : Option AnySpot) × (next : Option AnySpot)
+            × IsTied (head_at (entries_at self.old.entries)) (head_at (entries_at self.new.entries)) (link_at (entries_at self.old.entries)) (link_at (entries_at self.new.entries)) spot task number before next }
+        ensures graph { graph_of self.new ≡ with_task (graph_of self.old) spot.task (λ u. record u { inputs = set u.inputs spot.place (AwaitsTask task number) }) }
+        ensures size { IsSameSize self.old.entries self.new.entries }
+    {
+        self.entries.join(spot, task, number);
     }
 
     /// A caller is stopped.

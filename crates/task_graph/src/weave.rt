@@ -1,11 +1,11 @@
 // The list of the inputs that await a task: how one joins it, and how its first leaves it.
-ghost use Rattle.std.specs.Prelude.{◌≡◌, ℕ, Some, None, IsSome};
+ghost use Rattle.std.specs.Prelude.{◌≡◌, ℕ, Option, Some, None, IsSome};
 ghost use Rattle.std.specs.Option.{option_map};
 ghost use Rattle.task_states.specs.States.{Known as KnownInput, Awaits as AwaitsTask};
 ghost use Rattle.task_graph.specs.declared.entries.Spot.{Spot as AnySpot};
 ghost use Rattle.task_graph.specs.declared.entries.Place.TheVariants.{Awaits as AwaitsPlace};
 ghost use Rattle.task_graph.specs.Inside.{entries_at, IsSameSize, shown_place, place_at, with_input, shown_at, station_at};
-ghost use Rattle.task_graph.specs.Weave.{head_at, link_at, with_next_at, instead, last_behind, IsGap, IsTied, IsUntied, IsWoven, IsUnused, IsBelow, IsUnasked, IsAtHome, IsFirst};
+ghost use Rattle.task_graph.specs.Weave.{head_at, link_at, with_next_at, instead, last_behind, IsGap, IsTied, IsUntied, IsWoven, IsUnused, IsBelow, IsUnasked, IsAtHome, IsFirst, count_of};
 
 use crate::entries::{Entries, Link, Place, Spot};
 use cht_ids::Ref;
@@ -38,6 +38,7 @@ impl<K: Copy> Entries<K> {
         ensures heads { (q : ℕ) → head_at (entries_at self.new) q ≡ head_at (entries_at self.old) q }
         ensures shown { (q : ℕ) → shown_at (entries_at self.new) q ≡ shown_at (entries_at self.old) q }
         ensures stations { (q : ℕ) → station_at (entries_at self.new) q ≡ station_at (entries_at self.old) q }
+        ensures counts { (q : ℕ) → option_map count_of (entries_at self.new q) ≡ option_map count_of (entries_at self.old q) }
         ensures size { IsSameSize self.old self.new }
     {
         if let Some(spot) = before {
@@ -92,6 +93,7 @@ impl<K: Copy> Entries<K> {
             spot link.task link.number before link.next }
         ensures shown { (q : ℕ) → shown_at (entries_at self.new) q ≡ option_map (with_input q spot (shown_place (AwaitsPlace link))) (shown_at (entries_at self.old) q) }
         ensures stations { (q : ℕ) → station_at (entries_at self.new) q ≡ station_at (entries_at self.old) q }
+        ensures counts { (q : ℕ) → option_map count_of (entries_at self.new q) ≡ option_map count_of (entries_at self.old q) }
         ensures size { IsSameSize self.old self.new }
     {
         self.set_place(spot, Place::Awaits(link));
@@ -111,8 +113,11 @@ impl<K: Copy> Entries<K> {
         requires unused { IsUnused (link_at (entries_at self.old)) number }
         requires unasked { IsUnasked (head_at (entries_at self.old)) number }
         ensures woven { IsWoven (head_at (entries_at self.new)) (link_at (entries_at self.new)) }
+        ensures tied { (before : Option AnySpot) × (next : Option AnySpot)
+            × IsTied (head_at (entries_at self.old)) (head_at (entries_at self.new)) (link_at (entries_at self.old)) (link_at (entries_at self.new)) spot task number before next }
         ensures shown { (q : ℕ) → shown_at (entries_at self.new) q ≡ option_map (with_input q spot (AwaitsTask task number)) (shown_at (entries_at self.old) q) }
         ensures stations { (q : ℕ) → station_at (entries_at self.new) q ≡ station_at (entries_at self.old) q }
+        ensures counts { (q : ℕ) → option_map count_of (entries_at self.new q) ≡ option_map count_of (entries_at self.old q) }
         ensures size { IsSameSize self.old self.new }
     {
         let (before, next) = self.gap(task, number);
@@ -128,6 +133,7 @@ impl<K: Copy> Entries<K> {
         ensures untied { IsUntied (head_at (entries_at self.old)) (head_at (entries_at self.new)) (link_at (entries_at self.old)) (link_at (entries_at self.new)) spot result }
         ensures shown { (q : ℕ) → shown_at (entries_at self.new) q ≡ option_map (with_input q spot (KnownInput r)) (shown_at (entries_at self.old) q) }
         ensures stations { (q : ℕ) → station_at (entries_at self.new) q ≡ station_at (entries_at self.old) q }
+        ensures counts { (q : ℕ) → option_map count_of (entries_at self.new q) ≡ option_map count_of (entries_at self.old q) }
         ensures size { IsSameSize self.old self.new }
     {
         let link = self.link(spot);

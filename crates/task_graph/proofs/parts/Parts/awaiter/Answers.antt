@@ -15,3 +15,23 @@ pub link-link-requires : goal.link-link-requires
 link-link-requires g c =
     let f = first_link c.args.self.now c.args.task c.get-entry.result c.requires.whole c.get-entry.ensures c.in-Some.spot c.in-Some.is in
     some_is (link_at (entries_at c.args.self.now.entries) c.in-Some.spot) f.0 f.1
+
+pub returns-in-None-asked : goal.returns-in-None-asked
+returns-in-None-asked g c =
+    nobody c.args.self.now c.args.task c.get-entry.result c.requires.whole c.get-entry.ensures c.in-None.is c.in-None-asked.is
+
+pub returns-in-Some-asked : goal.returns-in-Some-asked
+returns-in-Some-asked g c =
+    only_asked c.args.self.now c.args.task c.get-entry.result c.requires.whole c.get-entry.ensures c.in-Some-asked.number c.in-None.is c.in-Some-asked.is
+
+pub returns-in-None-asked-2 : goal.returns-in-None-asked-2
+returns-in-None-asked-2 g c =
+    input_first c.args.self.now c.args.task c.get-entry.result c.requires.whole c.get-entry.ensures c.in-Some.spot c.link-link.result c.in-Some.is c.link-link.ensures (λ n is. absurd (not_none c.get-entry.result.asked n c.in-None-asked-2.is is))
+
+pub returns-then-number-link : goal.returns-then-number-link
+returns-then-number-link g c =
+    asked_first c.args.self.now c.args.task c.get-entry.result c.requires.whole c.get-entry.ensures c.in-Some-asked-2.number c.in-Some.spot c.link-link.result c.in-Some.is c.link-link.ensures c.in-Some-asked-2.is c.if-number-link.true
+
+pub returns-else-number-link : goal.returns-else-number-link
+returns-else-number-link g c =
+    input_first c.args.self.now c.args.task c.get-entry.result c.requires.whole c.get-entry.ensures c.in-Some.spot c.link-link.result c.in-Some.is c.link-link.ensures (λ n is. let one = same_some c.in-Some-asked-2.number n (sym c.in-Some-asked-2.is ∙ is) in let low = c.if-number-link.false in omega arith)
