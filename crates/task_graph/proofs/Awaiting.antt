@@ -187,3 +187,31 @@ idle_links parts t e whole is waits awaited = (
     λ p l there same. waits p.place l.task l.number (ap (λ k. input_at (graph_of parts) k p.place) (sym same) ∙ input_is parts p l (awaits_behind (place_at (entries_at parts.entries) p) l there)),
     λ p l there same. awaited (AtInput p.task p.place l.number) (input_is parts p l (awaits_behind (place_at (entries_at parts.entries) p) l there) ∙ ap (λ k. Some (AwaitsTask k l.number)) same),
 )
+
+-- no two awaiters of a task have the least number
+pub one_least : {K : Type 0} (parts : Parts K) (t : ℕ) (e : Entry K) → IsWhole parts → entries_at parts.entries t ≡ Some e → (a b : Awaiter) → IsLeastAwaiter (graph_of parts) t a → IsLeastAwaiter (graph_of parts) t b → a ≡ b
+one_least parts t e whole is (AtInput s j m) (AtInput q k n) one two =
+    let l = link_behind parts s j t m one.awaits in
+    let o = link_behind parts q k t n two.awaits in
+    let low = one.least (AtInput q k n) two.awaits in
+    let high = two.least (AtInput s j m) one.awaits in
+    let number : m ≡ n = omega arith in
+    let spot = whole.woven.apart (record { task = s; place = j }) (record { task = q; place = k }) l.0 o.0 l.1 o.1 (l.3 ∙ number ∙ sym o.3) in
+    λ i. AtInput (spot i).task (spot i).place (number i)
+one_least parts t e whole is (AtInput s j m) (Asked c n) one two =
+    let l = link_behind parts s j t m one.awaits in
+    let low = one.least (Asked c n) two.awaits in
+    let high = two.least (AtInput s j m) one.awaits in
+    let number : m ≡ n = omega arith in
+    absurd (whole.woven.asked_apart (record { task = s; place = j }) l.0 t (head_of e) n l.1 (ap (option_map head_of) is) (asked_same parts t e whole is c n two.awaits) (l.3 ∙ number))
+one_least parts t e whole is (Asked c n) (AtInput s j m) one two =
+    let l = link_behind parts s j t m two.awaits in
+    let low = two.least (Asked c n) one.awaits in
+    let high = one.least (AtInput s j m) two.awaits in
+    let number : m ≡ n = omega arith in
+    absurd (whole.woven.asked_apart (record { task = s; place = j }) l.0 t (head_of e) n l.1 (ap (option_map head_of) is) (asked_same parts t e whole is c n one.awaits) (l.3 ∙ number))
+one_least {K} parts t e whole is (Asked c m) (Asked d n) one two =
+    let number = same_some m n (sym (asked_same parts t e whole is c m one.awaits) ∙ asked_same parts t e whole is d n two.awaits) in
+    let task = same_some one.awaits.unfinished two.awaits.unfinished (sym one.awaits.there ∙ two.awaits.there) in
+    let caller = sym one.awaits.caller_is ∙ ap (λ (u : Unfinished Ref K). u.caller) task ∙ two.awaits.caller_is in
+    λ i. Asked (caller i) (number i)

@@ -170,3 +170,11 @@ ask_revised parts t e row asked whole is at free = record {
   free = λ n is. inl (free n is);
   counted = λ other there. let one = ap (λ (r : Caller). r.running) (same_some row other (sym at ∙ there)) in omega arith;
 }
+
+some_value : {X : Type 0} (o : Option X) → IsSome o → (x : X) × (o ≡ Some x)
+some_value None there = absurd (cc)
+some_value (Some x) there = (x, refl)
+
+-- the entry of a task that is there
+pub some_entry : {K : Type 0} (parts : Parts K) (q : ℕ) → IsSome (task_at (graph_of parts) q) → (e : Entry K) × (entries_at parts.entries q ≡ Some e)
+some_entry parts q there = some_value (entries_at parts.entries q) (entry_of parts q there)

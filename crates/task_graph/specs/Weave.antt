@@ -1,6 +1,8 @@
 -- How the inputs that await a task are linked.
 use Rattle.std.specs.Prelude.{◌≡◌, ℕ, ◌<◌, ◌≤◌, ◌^◌, ◌-◌, Bool, false, cond, nat_eq, ◌⊎◌, Option, None, Some}
 use Rattle.std.specs.Option.{option_map}
+use Rattle.task_states.specs.declared.states.Awaiter.{Awaiter}
+use Rattle.task_states.specs.declared.states.Awaiter.TheVariants.{Input as AtInput, Asked}
 use Rattle.task_graph.specs.declared.entries.Spot.{Spot}
 use Rattle.task_graph.specs.declared.entries.Link.{Link}
 use Rattle.task_graph.specs.declared.entries.Entry.{Entry}
@@ -201,3 +203,17 @@ IsInserted old new task entry =
 -- an entry less
 abbrev pub IsWithout : {K : Type 0} → Middle K → Middle K → ℕ → Type 0
 IsWithout old new task = (q : ℕ) → new q ≡ cond (nat_eq q task) None (old q)
+
+-- an awaiter that is an input is the first of the list of the task that it awaits
+abbrev pub IsFirstIfInput : (ℕ → Option Head) → (Spot → Option Link) → Option Awaiter → Type 0
+IsFirstIfInput heads links None = Unit {0}
+IsFirstIfInput heads links (Some (AtInput task place number)) = IsFirst heads links (record { task = task; place = place })
+IsFirstIfInput heads links (Some (Asked caller number)) = Unit {0}
+
+-- how far the first input that awaits a task is from the greatest number of 128 bits
+abbrev pub rest_after : {K : Type 0} → (Spot → Option Link) → Option (Entry K) → ℕ
+rest_after links None = 0
+rest_after links (Some entry) = rest_from links entry.first
+
+abbrev pub rest_first : {K : Type 0} → (ℕ → Option (Entry K)) → ℕ → ℕ
+rest_first entries task = rest_after (link_at entries) (entries task)

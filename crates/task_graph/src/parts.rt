@@ -10,14 +10,17 @@ ghost use Rattle.task_graph.specs.Order.{IsOrdered, IsJustBelow, IsBehind, with_
 ghost use Rattle.std.specs.Prelude.{IsTrue, ◌↔◌, ◌^◌, length, set};
 ghost use Rattle.task_states.specs.States.{Known as KnownInput, Awaits as AwaitsTask};
 ghost use Rattle.task_states.specs.Steps.{with_task};
-ghost use Rattle.task_graph.specs.Weave.{head_at, link_at, IsFirst, IsUntied, IsTied, IsAtHome, IsUnused, IsUnasked};
+ghost use Rattle.task_graph.specs.Weave.{head_at, link_at, IsFirst, IsUntied, IsTied, IsAtHome, IsUnused, IsUnasked, IsFirstIfInput, Head as AnyHead};
+ghost use Rattle.task_graph.specs.Contents.{AreOfOneCaller, IsAskedOnce};
+ghost use Rattle.task_graph.specs.Moving.{IsMovable, IsMoved};
+ghost use Rattle.task_states.specs.declared.states.Awaiter.{Awaiter as AnyAwaiter};
 ghost use Rattle.std.specs.Prelude.{Option};
 ghost use Rattle.task_graph.specs.declared.entries.Spot.{Spot as AnySpot};
 ghost use Rattle.task_graph.specs.Inside.{place_at};
 ghost use Rattle.task_states.specs.declared.states.TaskStatus.TheVariants.{Ready, Running};
 ghost use Rattle.task_states.specs.States.{task_at, AwaitsNothing};
-ghost use Rattle.task_states.specs.Awaiters.{IsFree, IsNotAwaited, IsAwaiterFound};
-ghost use Rattle.task_states.specs.Steps.{started, given_back, with_asked, without_asked, with_stopped, removed, added};
+ghost use Rattle.task_states.specs.Awaiters.{IsFree, IsNotAwaited, IsAwaiterFound, IsLeastAwaiter, task_of};
+ghost use Rattle.task_states.specs.Steps.{started, given_back, with_asked, without_asked, with_stopped, removed, added, delivered, inputs_redirected, forwarded};
 ghost use Rattle.task_graph.specs.declared.entries.Entry.{Entry as AnyEntry};
 ghost use Rattle.task_graph.specs.Inside.{shown_entry};
 ghost use Rattle.task_graph.specs.Graphs.{graph_of, IsWhole, IsRevised, with_revised, IsIdle, IsBare};
@@ -275,7 +278,8 @@ impl<K: Copy> Parts<K> {
     pub fn awaiter(&self, task: u128) -> Option<Awaiter>
         requires whole { IsWhole self.now }
         requires there { IsSome (task_at (graph_of self.now) task) }
-        ensures { IsAwaiterFound (graph_of self.now) task result }
+        ensures least { IsAwaiterFound (graph_of self.now) task result }
+        ensures first { IsFirstIfInput (head_at (entries_at self.now.entries)) (link_at (entries_at self.now.entries)) result }
     {
         let entry = self.entries.get(task);
         match entry.first {
@@ -404,5 +408,83 @@ impl<K: Copy> Parts<K> {
         ensures room { room_of self.old.entries ≤ room_of self.new.entries + 1 }
     {
         self.place(task, entry);
+    }
+
+    /// The awaiter of a task with the least number gets a reference. Answers the task whose input it is, if it is one.
+    pub fn deliver(&mut self, task: u128, r: Ref) -> Option<u128>
+        requires whole { IsWhole self.old }
+        requires there { IsSome (task_at (graph_of self.old) task) }
+        requires awaited { IsNotAwaited (graph_of self.old) task → ⊥ }
+        ensures whole { IsWhole self.new }
+        ensures graph { (awaiter : AnyAwaiter) → IsLeastAwaiter (graph_of self.old) task awaiter → graph_of self.new ≡ delivered (graph_of self.old) task awaiter r }
+        ensures input { (awaiter : AnyAwaiter) → IsLeastAwaiter (graph_of self.old) task awaiter → result ≡ task_of awaiter }
+        ensures size { IsSameSize self.old.entries self.new.entries }
+    {
+        match self.awaiter(task) {
+            None => None,
+            Some(Awaiter::Input {
+                task: of, place, ..
+            }) => {
+                self.settle(Spot { task: of, place }, r);
+                Some(of)
+            }
+            Some(Awaiter::Asked { .. }) => {
+                self.unask(task);
+                None
+            }
+        }
+    }
+
+    // The first input that awaits a task, if one does.
+    fn first(&self, task: u128) -> Option<Spot>
+        requires { IsSome (entries_at self.now.entries task) }
+        ensures { (head : AnyHead) → head_at (entries_at self.now.entries) task ≡ Some head → result ≡ head.first }
+    {
+        let entry = self.entries.get(task);
+        entry.first
+    }
+
+    // The first input that awaits one task awaits another of the same caller.
+    fn move_first(&mut self, spot: Spot, to: u128)
+        requires whole { IsWhole self.old }
+        requires movable { IsMovable self.old spot to }
+        ensures whole { IsWhole self.new }
+        ensures moved { IsMoved self.old self.new spot to }
+        ensures size { IsSameSize self.old.entries self.new.entries }
+    {
+        let link = self.settle(spot, Ref::Null);
+        self.join(spot, to, link.number);
+    }
+
+    // All inputs that await one task await another.
+    fn move_all(&mut self, task: u128, to: u128)
+        requires whole { IsWhole self.old }
+        requires callers { AreOfOneCaller (graph_of self.old) task to }
+        requires apart { task ≡ to → ⊥ }
+        ensures whole { IsWhole self.new }
+        ensures graph { graph_of self.new ≡ inputs_redirected (graph_of self.old) task to }
+        ensures size { IsSameSize self.old.entries self.new.entries }
+    {
+        while let Some(spot) = self.first(task) {
+            self.move_first(spot, to);
+        }
+    }
+
+    /// All that awaits one task awaits another of the same caller.
+    pub fn forward(&mut self, task: u128, to: u128)
+        requires whole { IsWhole self.old }
+        requires callers { AreOfOneCaller (graph_of self.old) task to }
+        requires apart { task ≡ to → ⊥ }
+        requires asked { IsAskedOnce (graph_of self.old) task to }
+        ensures whole { IsWhole self.new }
+        ensures graph { graph_of self.new ≡ forwarded (graph_of self.old) task to }
+        ensures size { IsSameSize self.old.entries self.new.entries }
+    {
+        let entry = self.entries.get(task);
+        self.move_all(task, to);
+        if let Some(number) = entry.asked {
+            self.unask(task);
+            self.ask(to, number);
+        }
     }
 }

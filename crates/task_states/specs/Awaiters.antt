@@ -10,6 +10,11 @@ abbrev pub number_of : Awaiter → ℕ
 number_of (AtInput task place number) = number
 number_of (Asked caller number) = number
 
+-- the task whose input an awaiter is, if it is one
+abbrev pub task_of : Awaiter → Option ℕ
+task_of (AtInput task place number) = Some task
+task_of (Asked caller number) = None
+
 -- nothing where no number is of the kind, and else the least of them
 abbrev pub IsLeastOf : (ℕ → Type 0) → Option ℕ → Type 0
 IsLeastOf IsOne None = (number : ℕ) → IsOne number → ⊥
