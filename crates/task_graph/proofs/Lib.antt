@@ -7,6 +7,7 @@ mod Cleaning
 mod Counting
 mod Keeping
 mod Marking
+mod Moves
 mod Orders
 mod Queues
 mod Revising

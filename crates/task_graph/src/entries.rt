@@ -139,6 +139,7 @@ impl<K: Copy> Entries<K> {
     pub fn set_ends(&mut self, task: u128, first: Option<Spot>, last: Option<Spot>)
         requires { IsSome (entries_at self.old task) }
         ensures links { (p : AnySpot) → link_at (entries_at self.new) p ≡ link_at (entries_at self.old) p }
+        ensures places { (p : AnySpot) → place_at (entries_at self.new) p ≡ place_at (entries_at self.old) p }
         ensures heads { (q : ℕ) → head_at (entries_at self.new) q ≡ option_map (with_ends q task first last) (head_at (entries_at self.old) q) }
         ensures shown { (q : ℕ) → shown_at (entries_at self.new) q ≡ shown_at (entries_at self.old) q }
         ensures stations { (q : ℕ) → station_at (entries_at self.new) q ≡ station_at (entries_at self.old) q }

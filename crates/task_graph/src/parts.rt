@@ -322,6 +322,7 @@ impl<K: Copy> Parts<K> {
         ensures link { link_at (entries_at self.old.entries) spot ≡ Some result }
         ensures untied { IsUntied (head_at (entries_at self.old.entries)) (head_at (entries_at self.new.entries)) (link_at (entries_at self.old.entries)) (link_at (entries_at self.new.entries)) spot result }
         ensures graph { graph_of self.new ≡ with_task (graph_of self.old) spot.task (λ u. record u { inputs = set u.inputs spot.place (KnownInput r) }) }
+        ensures there { IsSome (place_at (entries_at self.new.entries) spot) }
         ensures size { IsSameSize self.old.entries self.new.entries }
     {
         self.entries.settle(spot, r)

@@ -133,6 +133,7 @@ impl<K: Copy> Entries<K> {
         ensures untied { IsUntied (head_at (entries_at self.old)) (head_at (entries_at self.new)) (link_at (entries_at self.old)) (link_at (entries_at self.new)) spot result }
         ensures shown { (q : ℕ) → shown_at (entries_at self.new) q ≡ option_map (with_input q spot (KnownInput r)) (shown_at (entries_at self.old) q) }
         ensures stations { (q : ℕ) → station_at (entries_at self.new) q ≡ station_at (entries_at self.old) q }
+        ensures there { IsSome (place_at (entries_at self.new) spot) }
         ensures counts { (q : ℕ) → option_map count_of (entries_at self.new q) ≡ option_map count_of (entries_at self.old q) }
         ensures size { IsSameSize self.old self.new }
     {

@@ -2,10 +2,11 @@ use Rattle.std.proofs.Common.{◌≡◌, Some, ap, sym, ◌∙◌, cond, None}
 use Rattle.std.specs.Option.{option_map}
 use Rattle.task_graph.specs.declared.entries.Link.{Link}
 use Rattle.task_graph.specs.declared.entries.Place.TheVariants.{Known}
-use Rattle.task_graph.specs.Inside.{entries_at}
+use Rattle.task_graph.specs.Inside.{entries_at, place_at}
 use Rattle.task_graph.specs.Weave.{Head, head_at, head_of, link_at, with_ends, IsUntied}
 use Rattle.task_graph.proofs.Writing.{link_placed}
-use Rattle.task_graph.proofs.Tying.{untied}
+use Rattle.task_graph.proofs.Tying.{untied, spot_same}
+use Rattle.task_graph.proofs.Walking.{some_is}
 use Rattle.task_graph.proofs.Weaving.{untied-woven, same_some}
 use Rattle.task_graph.proofs.entries.Entries.settle.Goals as goal
 
@@ -36,3 +37,8 @@ pub returns-clause-woven : goal.returns-clause-woven
 returns-clause-woven g c =
     untied-woven (head_at (entries_at c.args.self.now)) (head_at (entries_at c.set_ends.new.self)) (link_at (entries_at c.args.self.now)) (link_at (entries_at c.set_ends.new.self)) c.args.spot c.link-link.result c.requires.woven (made g c)
     (head_of c.get-entry.result) (own g c) (first g c)
+
+pub returns-clause-there : goal.returns-clause-there
+returns-clause-there g c =
+    some_is (place_at (entries_at c.set_ends.new.self) c.args.spot) (Known c.args.r)
+    (c.set_ends.ensures.places c.args.spot ∙ c.set_place.ensures.places c.args.spot ∙ ap (λ b. cond b (Some (Known c.args.r)) (place_at (entries_at c.args.self.now) c.args.spot)) (spot_same c.args.spot))
