@@ -1,0 +1,9 @@
+//! The unfinished tasks of a core: which of them are ready, and who awaits whose output.
+#![tactic(auto)]
+
+mod callers;
+mod entries;
+mod held;
+mod parts;
+mod queue;
+mod weave;
