@@ -11,13 +11,13 @@ use Rattle.name_states.specs.declared.holder.Holder.TheVariants.{Body}
 use Rattle.name_states.specs.States.{NameState, IdRecord, BodyRecord, id_at, record_of, body_record_of, body_named, children_in, owned_by, AreLive, IsLive}
 use Rattle.name_states.specs.Steps.{registered, numbered}
 use Rattle.chunk_refs.specs.Others.{IsAsBefore}
-use Rattle.chunk_refs.specs.Trees.{tree_named, led_to, grown, tree_within, body_tree, tree_of}
+use Rattle.name_states.specs.Trees.{tree_named, led_to, grown, tree_within, body_tree, tree_of}
 use Rattle.name_states.specs.Rules.{IsSound, AreWithin}
 use Rattle.name_states.proofs.Copies.{AreCopies}
 use Rattle.name_states.proofs.Sound.{new-body, new-naming, new-copies, more-registered}
 use Rattle.name_states.proofs.Within.{AreMore, naming_of-kept, owned-same, naming-number}
 use Rattle.name_states.proofs.Basics.{some_value}
-use Rattle.chunk_refs.proofs.Trees.{same-within, tree-kept}
+use Rattle.name_states.proofs.Trees.{same-within, tree-kept}
 
 module _ {C : Type 0} where
   -- copies lead to what the children lead to

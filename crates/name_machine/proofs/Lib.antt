@@ -23,3 +23,4 @@ pub mod CallerParts
 pub mod WorkerParts
 pub mod Stopping
 pub mod Forgets
+pub mod Stand

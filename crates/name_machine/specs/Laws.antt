@@ -16,11 +16,15 @@ use Rattle.task_states.specs.States.{Unfinished, task_at, status, is_stopped}
 use Rattle.task_types.specs.Meanings.{Meanings}
 use Rattle.cht_history.specs.declared.event.Event.{Event}
 use Rattle.cht_history.specs.declared.event.Event.TheVariants.{Register, Copy, Delete, Ask, Collect, Abandon, Stop, Start, GiveBack, Finish}
-use Rattle.name_machine.specs.States.{Machine, Ask as AskOf, tree_named}
+use Rattle.name_states.specs.Rules.{IsSound, AreReached}
+use Rattle.name_machine.specs.Control.{Control, no_control, tidied, effect_with}
+use Rattle.name_machine.specs.Forgetting.{forgotten}
+use Rattle.name_machine.specs.Standing.{machine_of}
+use Rattle.name_machine.specs.States.{Machine, Ask as AskOf, opening, tree_named}
 use Rattle.name_machine.specs.Machine.{IsStep, IsLegalRun}
 use Rattle.name_machine.specs.Facts.{HoldsTogether}
 use Rattle.name_machine.specs.Parts.{is_callers_own, is_workers_own, work_left, account_of, caller_part, worker_part}
-use Rattle.name_machine.specs.Replay.{Plans, Replayed, is_mine, is_planned, happens, replay}
+use Rattle.name_machine.specs.Replay.{Plans, Replayed, is_mine, is_planned, is_allowed, happens, replay}
 
 module _ {K : Type 0} where
   -- whether an event is the finish of a task
@@ -208,3 +212,30 @@ RefusesUnplanned {K} plans =
     (control : Replayed K) (worker task : ℕ) (unfinished : Unfinished Ref K) (chunks : List Places) (tasks : List (NewTask K)) (result : Place)
     → task_at control.graph task ≡ Some unfinished → is_planned plans control.names unfinished chunks tasks result ≡ false
     → happens plans control (Finish worker task chunks tasks result) ≡ None
+
+-- ---- What a control state stands for
+
+-- the opening state stands for the opening state, and has nothing in it
+abbrev pub OpeningStands : {C K : Type 0} → Meanings C K → Type 0
+OpeningStands {C} {K} lib = machine_of lib (no_control {B = C} {G = Unit {0}} {K = K}) ≡ opening
+
+-- an event that touches no names: a stop, a start, or a give-back
+abbrev pub TouchesNoNames : {K : Type 0} → Event K → Type 0
+TouchesNoNames (Register caller id children) = ⊥
+TouchesNoNames (Copy caller from to) = ⊥
+TouchesNoNames (Delete caller id) = ⊥
+TouchesNoNames (Ask caller number kind inputs) = ⊥
+TouchesNoNames (Collect caller number got) = ⊥
+TouchesNoNames (Abandon caller) = ⊥
+TouchesNoNames (Stop caller) = Unit {0}
+TouchesNoNames (Start worker number) = Unit {0}
+TouchesNoNames (GiveBack worker number) = Unit {0}
+TouchesNoNames (Finish worker number chunks tasks result) = ⊥
+
+-- such an event, where it is allowed, is the step of the machine of its name between the states that are stood for, where the rules
+-- of names hold and every body is reached
+abbrev pub StandsStep : {C K : Type 0} → Meanings C K → (C → ℕ) → Plans K → Type 0
+StandsStep {C} {K} lib arity plans =
+    (control : Control C (Unit {0}) K) (contents : List C) (event : Event K) → IsSound arity control.names → AreReached control.names
+    → TouchesNoNames event → is_allowed plans (forgotten arity control) event ≡ true
+    → IsStep lib arity (machine_of lib control) event (machine_of lib (tidied (effect_with control contents event)))

@@ -6,6 +6,7 @@ pub mod Goals
 pub mod Control
 pub mod Replay
 pub mod Forgetting
+pub mod Standing
 pub mod Facts
 pub mod Parts
 pub mod Laws

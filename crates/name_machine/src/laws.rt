@@ -4,7 +4,7 @@
 ghost use Rattle.std.specs.Prelude.{ℕ};
 ghost use Rattle.name_machine.specs.Forgetting.{ForgettingReplays};
 ghost use Rattle.name_machine.specs.Replay.{Plans};
-ghost use Rattle.name_machine.specs.Laws.{AccountsChange, LeavesCallers, LeavesWorkers, FactsHold, StopsAreLast, StopsEnd, FinishedOnce, RefusesStrange, DeadIsStrange, OthersAreStrange, UncollectedIsStrange, RefusesOutOfTurn, RefusesNotReady, RefusesSecondStart, RefusesUnplanned};
+ghost use Rattle.name_machine.specs.Laws.{AccountsChange, LeavesCallers, LeavesWorkers, FactsHold, StopsAreLast, StopsEnd, FinishedOnce, RefusesStrange, DeadIsStrange, OthersAreStrange, UncollectedIsStrange, RefusesOutOfTurn, RefusesNotReady, RefusesSecondStart, RefusesUnplanned, OpeningStands, StandsStep};
 
 use task_types::Library;
 
@@ -56,4 +56,11 @@ pub fn stops<L: Library>()
 /// children in place of each content, whatever the plans are.
 pub fn forgetting_replays<C, K>()
     ensures { (arity : C → ℕ) (plans : Plans K) → ForgettingReplays arity plans }
+{}
+
+/// What a control state with contents stands for: the opening state stands for the opening state, and a stop, a start
+/// and a give-back are the machine's steps between the states that are stood for.
+pub fn standing<L: Library>()
+    ensures opening { OpeningStands L.meanings }
+    ensures steps { (plans : Plans L.Kind) → StandsStep L.meanings L.Chunk.arity plans }
 {}

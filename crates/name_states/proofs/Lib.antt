@@ -7,3 +7,4 @@ pub mod SweptOnce
 pub mod Values
 pub mod Within
 pub mod WithoutContents
+pub mod Trees

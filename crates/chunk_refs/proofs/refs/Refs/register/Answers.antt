@@ -3,7 +3,7 @@ use Rattle.cht_ids.specs.declared.refs.Id.{Id}
 use Rattle.cht_ids.specs.declared.refs.Ref.TheVariants.{Id as Held}
 use Rattle.chunk_refs.specs.Room.{Contents, spare_of}
 use Rattle.name_states.specs.States.{AreLive, holder_of, body_of, children_of}
-use Rattle.chunk_refs.specs.Trees.{tree_of}
+use Rattle.name_states.specs.Trees.{tree_of}
 use Rattle.name_states.specs.Steps.{registered, present, numbered}
 use Rattle.name_states.specs.Rules.{IsSound, AreWithin, AreReached}
 use Rattle.chunk_refs.specs.Others.{AreAllAsBefore, IsOnlyNew}
