@@ -35,7 +35,7 @@ use Rattle.name_machine.proofs.Runs.{Kept, step_keeps, run_keeps}
 use Rattle.name_machine.proofs.CallerParts.{others_left, differ}
 
 -- a worker's test of a runner
-runs_it : (worker : ℕ) (o : Option ℕ) → is_runner worker o ≡ true → o ≡ Some worker
+pub runs_it : (worker : ℕ) (o : Option ℕ) → is_runner worker o ≡ true → o ≡ Some worker
 runs_it worker None is = absurd (let clash : false ≡ true = is in cc)
 runs_it worker (Some other) is = ap Some (same_from_test other worker is)
 
@@ -85,6 +85,19 @@ module _ {C K : Type 0} where
         ]
       ] refl
 
+  -- what a worker is found to run, it runs; and what it runs is found
+  found_runs : (worker : ℕ) (graph : Graph (Tree C) K) (r : Run C K) → run_among worker (map.entries graph.tasks) ≡ Some r
+      → (q : ℕ) × (t : Unfinished (Tree C) K) × RunsAt worker graph q t × (r ≡ seen q t)
+  found_runs worker graph r is =
+      let held = among_held worker (map.entries graph.tasks) (map.entries_sorted graph.tasks) r is in
+      (held.0, held.1, (map.get-entries graph.tasks held.0 ∙ held.2, held.3), held.4)
+
+  runs_found : (worker : ℕ) (graph : Graph (Tree C) K) (q : ℕ) (t : Unfinished (Tree C) K) → RunsAt worker graph q t → (r : Run C K) × (run_among worker (map.entries graph.tasks) ≡ Some r)
+  runs_found worker graph q t runs = among_some worker (map.entries graph.tasks) q t (sym (map.get-entries graph.tasks q) ∙ runs.0) runs.1
+
+  seen_alike : (q r : ℕ) (t u : Unfinished (Tree C) K) → r ≡ q → u.kind ≡ t.kind → input_trees u ≡ input_trees t → seen r u ≡ seen q t
+  seen_alike q r t u same kind inputs = λ i. record { task = same i; kind = kind i; inputs = inputs i }
+
   -- a worker sees the same in two states where it runs the same, and one task at most
   pub same_runs : (worker : ℕ) (graph after : Graph (Tree C) K)
       → ((q r : ℕ) (t u : Unfinished (Tree C) K) → RunsAt worker after q t → RunsAt worker after r u → q ≡ r)
@@ -96,20 +109,21 @@ module _ {C K : Type 0} where
         | inl none ↦ elim (none_or_some (run_among worker (map.entries after.tasks))) [
           | inl nothing ↦ nothing ∙ sym none
           | inr some ↦
-              absurd (let held = among_held worker (map.entries after.tasks) (map.entries_sorted after.tasks) some.0 some.1 in
-              let was = back held.0 held.1 (map.get-entries after.tasks held.0 ∙ held.2, held.3) in
-              let found = among_some worker (map.entries graph.tasks) held.0 was.0 (sym (map.get-entries graph.tasks held.0) ∙ was.1.0) was.1.1 in
-              none_not_some none found.1)
+            absurd (let held = found_runs worker after some.0 some.1 in
+            let was = back held.0 held.1 held.2 in
+            none_not_some none (runs_found worker graph held.0 was.0 was.1).1)
         ]
         | inr some ↦
-            let held = among_held worker (map.entries graph.tasks) (map.entries_sorted graph.tasks) some.0 some.1 in
-            let u = to held.0 held.1 (map.get-entries graph.tasks held.0 ∙ held.2, held.3) in
-            let found = among_some worker (map.entries after.tasks) held.0 u.0 (sym (map.get-entries after.tasks held.0) ∙ u.1.0) u.1.1 in
-            let then = among_held worker (map.entries after.tasks) (map.entries_sorted after.tasks) found.0 found.1 in
-            let at : then.0 ≡ held.0 = one then.0 held.0 then.1 u.0 (map.get-entries after.tasks then.0 ∙ then.2, then.3) u.1 in
-            let same : then.1 ≡ u.0 = same_some then.1 u.0 (sym (map.get-entries after.tasks then.0 ∙ then.2) ∙ ap (task_at after) at ∙ u.1.0) in
-            let shown : seen then.0 then.1 ≡ seen held.0 held.1 = (λ i. seen (at i) (same i)) ∙ (λ i. record { task = held.0; kind = u.2 i; inputs = u.3 i }) in
-            found.1 ∙ ap Some (then.4 ∙ shown ∙ sym held.4) ∙ sym some.1
+          let held = found_runs worker graph some.0 some.1 in
+          let u = to held.0 held.1 held.2 in
+          let found = runs_found worker after held.0 u.0 u.1 in
+          let then = found_runs worker after found.0 found.1 in
+          let at : ◌≡◌ {A = ℕ} then.0 held.0 = one then.0 held.0 then.1 u.0 then.2 u.1 in
+          let same : ◌≡◌ {A = Unfinished (Tree C) K} then.1 u.0 = same_some then.1 u.0 (sym then.2.0 ∙ ap (task_at after) at ∙ u.1.0) in
+          let kind : ◌≡◌ {A = K} then.1.kind held.1.kind = ap (λ v. v.kind) same ∙ u.2 in
+          let inputs : ◌≡◌ {A = List (Tree C)} (input_trees then.1) (input_trees held.1) = ap input_trees same ∙ u.3 in
+          let shown : ◌≡◌ {A = Run C K} found.0 some.0 = then.3 ∙ seen_alike held.0 then.0 held.1 then.1 at kind inputs ∙ sym held.3 in
+          found.1 ∙ ap Some shown ∙ sym some.1
       ]
 
 -- ---- Which tasks are run

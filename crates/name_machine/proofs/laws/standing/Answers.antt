@@ -1,8 +1,8 @@
-use Rattle.name_machine.proofs.Stand.{asks_same}
+use Rattle.name_machine.proofs.Stand.{opening_stands, stands_step}
 use Rattle.name_machine.proofs.laws.standing.Goals as goal
 
 pub returns-clause-opening : goal.returns-clause-opening
-returns-clause-opening g c = ?
+returns-clause-opening g c = opening_stands g.L.Library.meanings
 
 pub returns-clause-steps : goal.returns-clause-steps
-returns-clause-steps g c = ?
+returns-clause-steps g c = stands_step g.L.Library.meanings g.L.Chunk.Payload.arity
