@@ -77,7 +77,7 @@ module _ {C : Type 0} (arity : C → ℕ) where
       → forgot (chunk_more worker task inputs content places grown) ≡ chunk_more worker task inputs (arity content) places (forgot grown)
   chunk_one worker task inputs content places grown =
       let names_are = without_registered arity grown.names grown.drawn (ByTask task) worker content (each (ref_named grown.names inputs grown.chunks) places)
-        ∙ ap (λ read. names.registered (without_contents arity grown.names) grown.drawn (ByTask task) worker (arity content) (each read places)) (same_refs grown.names inputs grown.chunks) in
+      ∙ ap (λ read. names.registered (without_contents arity grown.names) grown.drawn (ByTask task) worker (arity content) (each read places)) (same_refs grown.names inputs grown.chunks) in
       λ i. record {
         names = names_are i;
         drawn = grown.drawn + 2 + taken places;
@@ -124,7 +124,7 @@ module _ {C : Type 0} (arity : C → ℕ) where
     tasks_all control caller inputs tasks grown =
         let read_is = same_refs grown.names inputs grown.chunks in
         let names_are = tasks_copied (ref_named grown.names inputs grown.chunks) grown.drawn tasks grown.names
-          ∙ ap (λ read. task_copies read grown.drawn tasks (without_contents arity grown.names)) read_is in
+        ∙ ap (λ read. task_copies read grown.drawn tasks (without_contents arity grown.names)) read_is in
         λ i. record {
           drawn = grown.drawn + drawn_by_tasks tasks;
           names = names_are i;
@@ -151,7 +151,7 @@ module _ {C : Type 0} (arity : C → ℕ) where
         let grown : Grown C = with_chunks control worker task inputs contents chunks in
         let more : Control C (Unit {0}) K = with_new_tasks control unfinished.caller inputs tasks grown in
         let grown_is : forgot grown ≡ with_chunks (forgotten arity control) worker task inputs (each arity contents) chunks =
-          chunks_all worker task inputs contents chunks (record { names = control.names; drawn = control.drawn; chunks = [] }) in
+        chunks_all worker task inputs contents chunks (record { names = control.names; drawn = control.drawn; chunks = [] }) in
         ap (λ c. without_task c task) (resolved_all more task (task_numbers grown.drawn tasks) (ref_named grown.names inputs grown.chunks) result)
         ∙ ap (λ c. without_task (resolved_to c task (task_numbers grown.drawn tasks) (ref_named grown.names inputs grown.chunks) result) task) (tasks_all control unfinished.caller inputs tasks grown)
         ∙ ap (λ read. without_task (resolved_to (with_new_tasks (forgotten arity control) unfinished.caller inputs tasks (forgot grown)) task (task_numbers grown.drawn tasks) read result) task)

@@ -24,3 +24,4 @@ pub mod WorkerParts
 pub mod Stopping
 pub mod Forgets
 pub mod Stand
+pub mod Grow

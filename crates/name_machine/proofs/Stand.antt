@@ -31,7 +31,7 @@ use Rattle.name_machine.specs.Control.{Control, no_control, tidied, effect_with}
 use Rattle.name_machine.specs.Replay.{Plans, is_ready, is_runner, is_run_by, runs_nothing, is_allowed}
 use Rattle.name_machine.specs.Forgetting.{forgotten}
 use Rattle.name_machine.specs.Standing.{held_shown, input_shown, task_shown, graph_shown, is_asked_under, asked_among, goal_shown, ask_shown, machine_of}
-use Rattle.name_machine.specs.Laws.{OpeningStands, TouchesNoNames, StandsStep}
+use Rattle.name_machine.specs.Laws.{OpeningStands}
 use Rattle.name_machine.proofs.Values.{any_from, any_to}
 use Rattle.name_machine.proofs.Tasks.{changed_here, changed_other, mapped_from}
 use Rattle.name_machine.proofs.WorkerParts.{runs_it}
@@ -63,8 +63,8 @@ module _ {C K : Type 0} (names : NameState C) where
       → graph_shown names (with_task graph n f) ≡ with_task (graph_shown names graph) n g
   shown_changed graph n f g alike =
       let tasks_are : (graph_shown names (with_task graph n f)).tasks ≡ (with_task (graph_shown names graph) n g).tasks =
-        same_maps _ _ (λ q. elim (same_or_not q n) [
-          | inl same ↦
+      same_maps _ _ (λ q. elim (same_or_not q n) [
+        | inl same ↦
             shown_at (with_task graph n f) q
             ∙ ap (λ k. option_map (task_shown names) (task_at (with_task graph n f) k)) same
             ∙ ap (option_map (task_shown names)) (changed_here graph n f)
@@ -74,12 +74,12 @@ module _ {C K : Type 0} (names : NameState C) where
             ∙ ap (option_map g) (sym (shown_at graph n))
             ∙ sym (changed_here (graph_shown names graph) n g)
             ∙ ap (task_at (with_task (graph_shown names graph) n g)) (sym same)
-          | inr apart ↦
+        | inr apart ↦
             shown_at (with_task graph n f) q
             ∙ ap (option_map (task_shown names)) (changed_other graph n q f apart)
             ∙ sym (shown_at graph q)
             ∙ sym (changed_other (graph_shown names graph) n q g apart)
-        ]) in
+      ]) in
       λ i. record { tasks = tasks_are i; stopped = graph.stopped }
 
 -- ---- Goals and the tasks that are asked for
@@ -158,11 +158,11 @@ change_keeps : {X K Y : Type 0} (graph : Graph X K) (n : ℕ) (f : Unfinished X 
 change_keeps graph n f part same q =
     elim (same_or_not q n) [
       | inl here ↦
-        ap (λ k. option_map part (task_at (with_task graph n f) k)) here
-        ∙ ap (option_map part) (changed_here graph n f)
-        ∙ map_twice f part (task_at graph n)
-        ∙ (λ i. option_map (λ t. same t i) (task_at graph n))
-        ∙ ap (λ k. option_map part (task_at graph k)) (sym here)
+          ap (λ k. option_map part (task_at (with_task graph n f) k)) here
+          ∙ ap (option_map part) (changed_here graph n f)
+          ∙ map_twice f part (task_at graph n)
+          ∙ (λ i. option_map (λ t. same t i) (task_at graph n))
+          ∙ ap (λ k. option_map part (task_at graph k)) (sym here)
       | inr apart ↦ ap (option_map part) (changed_other graph n q f apart)
     ]
 
@@ -196,13 +196,26 @@ ready_only Waiting is = absurd (let clash : false ≡ true = is in cc)
 ready_only Ready is = refl
 ready_only Running is = absurd (let clash : false ≡ true = is in cc)
 
-not_true : (b : Bool) → not b ≡ true → b ≡ false
+pub not_true : (b : Bool) → not b ≡ true → b ≡ false
 not_true true is = absurd (let clash : false ≡ true = is in cc)
 not_true false is = refl
 
 run_by : {K : Type 0} (worker : ℕ) (o : Option (Unfinished Ref K)) → is_run_by worker o ≡ true → (t : Unfinished Ref K) × (o ≡ Some t) × (t.runner ≡ Some worker)
 run_by worker None is = absurd (let clash : false ≡ true = is in cc)
 run_by worker (Some t) is = (t, refl, runs_it worker t.runner is)
+
+-- an event that touches no names: a stop, a start, or a give-back
+abbrev pub TouchesNoNames : {K : Type 0} → Event K → Type 0
+TouchesNoNames (Register caller id children) = ⊥
+TouchesNoNames (Copy caller from to) = ⊥
+TouchesNoNames (Delete caller id) = ⊥
+TouchesNoNames (AskEvent caller number kind inputs) = ⊥
+TouchesNoNames (Collect caller number got) = ⊥
+TouchesNoNames (Abandon caller) = ⊥
+TouchesNoNames (Stop caller) = Unit {0}
+TouchesNoNames (Start worker number) = Unit {0}
+TouchesNoNames (GiveBack worker number) = Unit {0}
+TouchesNoNames (Finish worker number chunks tasks result) = ⊥
 
 module _ {C K : Type 0} (lib : Meanings C K) where
   -- a state where only tasks change, but for their kinds, inputs and what is asked of them
@@ -212,7 +225,7 @@ module _ {C K : Type 0} (lib : Meanings C K) where
       → machine_of lib (record control { graph = after }) ≡ record (machine_of lib control) { graph = final }
   graph_changed control after final is what asked =
       let asks_are = (λ i. chosen (λ task ask. Some (ask_shown lib control.drawn control.names (is i) ask)) control.asks)
-        ∙ asks_same lib control.drawn control.names final (graph_shown control.names control.graph) control.asks what asked in
+      ∙ asks_same lib control.drawn control.names final (graph_shown control.names control.graph) control.asks what asked in
       λ i. record {
         drawn = control.drawn;
         holdings = (machine_of lib control).holdings;
@@ -258,35 +271,36 @@ module _ {C K : Type 0} (lib : Meanings C K) where
       let shown : Ask (Tree C) (Tree C) = ask_shown lib control.drawn control.names (graph_shown control.names control.graph) one.1 in
       any_from (is_of caller) (machine_of lib control).asks one.0 shown (chosen_to (λ task ask. Some (ask_shown lib control.drawn control.names (graph_shown control.names control.graph) ask)) control.asks one.0 one.1 shown one.2 refl) one.3
 
-  pub stands_step : (arity : C → ℕ) (plans : Plans K) → StandsStep lib arity plans
-  stands_step arity plans control contents (Register caller id children) sound reached touches allowed = absurd touches
-  stands_step arity plans control contents (Copy caller from to) sound reached touches allowed = absurd touches
-  stands_step arity plans control contents (Delete caller id) sound reached touches allowed = absurd touches
-  stands_step arity plans control contents (AskEvent caller task kind inputs) sound reached touches allowed = absurd touches
-  stands_step arity plans control contents (Collect caller task got) sound reached touches allowed = absurd touches
-  stands_step arity plans control contents (Abandon caller) sound reached touches allowed = absurd touches
-  stands_step arity plans control contents (Stop caller) sound reached touches allowed =
+  pub stands_still : (arity : C → ℕ) (plans : Plans K) (control : Control C (Unit {0}) K) (contents : List C) (event : Event K) → IsSound arity control.names → AreReached control.names
+      → TouchesNoNames event → is_allowed plans (forgotten arity control) event ≡ true → IsStep lib arity (machine_of lib control) event (machine_of lib (tidied (effect_with control contents event)))
+  stands_still arity plans control contents (Register caller id children) sound reached touches allowed = absurd touches
+  stands_still arity plans control contents (Copy caller from to) sound reached touches allowed = absurd touches
+  stands_still arity plans control contents (Delete caller id) sound reached touches allowed = absurd touches
+  stands_still arity plans control contents (AskEvent caller task kind inputs) sound reached touches allowed = absurd touches
+  stands_still arity plans control contents (Collect caller task got) sound reached touches allowed = absurd touches
+  stands_still arity plans control contents (Abandon caller) sound reached touches allowed = absurd touches
+  stands_still arity plans control contents (Stop caller) sound reached touches allowed =
       record {
         has_one = ask_shown_has control caller (both_left (has_ask control.asks caller) (not (is_stopped control.graph caller)) allowed);
         goes_on = not_true (is_stopped control.graph caller) (both_right (has_ask control.asks caller) (not (is_stopped control.graph caller)) allowed);
         after_is = stop_stands arity control caller sound reached;
       }
-  stands_step arity plans control contents (Start worker task) sound reached touches allowed =
+  stands_still arity plans control contents (Start worker task) sound reached touches allowed =
       record {
         ready = status_shown control.names control.graph task ∙ ready_only (status control.graph task) (both_left (is_ready (status control.graph task)) (runs_nothing (forgotten arity control) worker) allowed);
         idle = λ other runs.
-          let was = mapped_from (task_shown control.names) (task_at control.graph other) runs.0 (sym (shown_at control.names control.graph other) ∙ runs.1) in
-          let its : is_runner worker was.0.runner ≡ true = ap (is_runner worker) (ap (λ v. v.runner) (sym was.2) ∙ runs.2) ∙ test_same worker in
-          let any = any_from (λ (t : Unfinished Ref K). is_runner worker t.runner) control.graph.tasks other was.0 was.1 its in
-          let none = not_true (list_any (λ (t : Unfinished Ref K). is_runner worker t.runner) (map.values control.graph.tasks)) (both_right (is_ready (status control.graph task)) (runs_nothing (forgotten arity control) worker) allowed) in
-          let clash : true ≡ false = sym any ∙ none in
-          cc;
+            let was = mapped_from (task_shown control.names) (task_at control.graph other) runs.0 (sym (shown_at control.names control.graph other) ∙ runs.1) in
+            let its : is_runner worker was.0.runner ≡ true = ap (is_runner worker) (ap (λ v. v.runner) (sym was.2) ∙ runs.2) ∙ test_same worker in
+            let any = any_from (λ (t : Unfinished Ref K). is_runner worker t.runner) control.graph.tasks other was.0 was.1 its in
+            let none = not_true (list_any (λ (t : Unfinished Ref K). is_runner worker t.runner) (map.values control.graph.tasks)) (both_right (is_ready (status control.graph task)) (runs_nothing (forgotten arity control) worker) allowed) in
+            let clash : true ≡ false = sym any ∙ none in
+            cc;
         after_is = runner_stands arity control task (Some worker) sound reached;
       }
-  stands_step arity plans control contents (GiveBack worker task) sound reached touches allowed =
+  stands_still arity plans control contents (GiveBack worker task) sound reached touches allowed =
       let one = run_by worker (task_at control.graph task) allowed in
       record {
         runs = (task_shown control.names one.0, shown_at control.names control.graph task ∙ ap (option_map (task_shown control.names)) one.1, one.2);
         after_is = runner_stands arity control task None sound reached;
       }
-  stands_step arity plans control contents (Finish worker task chunks tasks result) sound reached touches allowed = absurd touches
+  stands_still arity plans control contents (Finish worker task chunks tasks result) sound reached touches allowed = absurd touches

@@ -134,7 +134,7 @@ module _ {C K : Type 0} (lib : Meanings C K) (arity : C → ℕ) where
       elim (same_or_not c by) [
         | inl same ↦ inr (ap (λ k. nat_eq k c) (sym same) ∙ test_same c)
         | inr apart ↦
-          inl (step_stopped before after (Abandon by) c keeps step ∙ ap (λ b. not b && is_stopped before.graph c) (test_apart c by apart) ∙ is)
+            inl (step_stopped before after (Abandon by) c keeps step ∙ ap (λ b. not b && is_stopped before.graph c) (test_apart c by apart) ∙ is)
       ]
   goes_on_stopped before after (Stop by) c keeps step is = inl (step_stopped before after (Stop by) c keeps step ∙ or_right (nat_eq c by) (is_stopped before.graph c) is)
   goes_on_stopped before after (Start worker task) c keeps step is = inl (step_stopped before after (Start worker task) c keeps step ∙ is)

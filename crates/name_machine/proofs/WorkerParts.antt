@@ -109,21 +109,21 @@ module _ {C K : Type 0} where
         | inl none ↦ elim (none_or_some (run_among worker (map.entries after.tasks))) [
           | inl nothing ↦ nothing ∙ sym none
           | inr some ↦
-            absurd (let held = found_runs worker after some.0 some.1 in
-            let was = back held.0 held.1 held.2 in
-            none_not_some none (runs_found worker graph held.0 was.0 was.1).1)
+              absurd (let held = found_runs worker after some.0 some.1 in
+              let was = back held.0 held.1 held.2 in
+              none_not_some none (runs_found worker graph held.0 was.0 was.1).1)
         ]
         | inr some ↦
-          let held = found_runs worker graph some.0 some.1 in
-          let u = to held.0 held.1 held.2 in
-          let found = runs_found worker after held.0 u.0 u.1 in
-          let then = found_runs worker after found.0 found.1 in
-          let at : ◌≡◌ {A = ℕ} then.0 held.0 = one then.0 held.0 then.1 u.0 then.2 u.1 in
-          let same : ◌≡◌ {A = Unfinished (Tree C) K} then.1 u.0 = same_some then.1 u.0 (sym then.2.0 ∙ ap (task_at after) at ∙ u.1.0) in
-          let kind : ◌≡◌ {A = K} then.1.kind held.1.kind = ap (λ v. v.kind) same ∙ u.2 in
-          let inputs : ◌≡◌ {A = List (Tree C)} (input_trees then.1) (input_trees held.1) = ap input_trees same ∙ u.3 in
-          let shown : ◌≡◌ {A = Run C K} found.0 some.0 = then.3 ∙ seen_alike held.0 then.0 held.1 then.1 at kind inputs ∙ sym held.3 in
-          found.1 ∙ ap Some shown ∙ sym some.1
+            let held = found_runs worker graph some.0 some.1 in
+            let u = to held.0 held.1 held.2 in
+            let found = runs_found worker after held.0 u.0 u.1 in
+            let then = found_runs worker after found.0 found.1 in
+            let at : ◌≡◌ {A = ℕ} then.0 held.0 = one then.0 held.0 then.1 u.0 then.2 u.1 in
+            let same : ◌≡◌ {A = Unfinished (Tree C) K} then.1 u.0 = same_some then.1 u.0 (sym then.2.0 ∙ ap (task_at after) at ∙ u.1.0) in
+            let kind : ◌≡◌ {A = K} then.1.kind held.1.kind = ap (λ v. v.kind) same ∙ u.2 in
+            let inputs : ◌≡◌ {A = List (Tree C)} (input_trees then.1) (input_trees held.1) = ap input_trees same ∙ u.3 in
+            let shown : ◌≡◌ {A = Run C K} found.0 some.0 = then.3 ∙ seen_alike held.0 then.0 held.1 then.1 at kind inputs ∙ sym held.3 in
+            found.1 ∙ ap Some shown ∙ sym some.1
       ]
 
 -- ---- Which tasks are run

@@ -1,5 +1,5 @@
 -- The laws of the machine and of replay, as statements. The functions of `laws` carry each as their contract.
-use Rattle.std.specs.Prelude.{[], ◌∷◌, ◌++◌, ◌-◌, map as each, if◌then◌else◌, ◌≡◌, ℕ, ◌+◌, ◌≤◌, ◌==◌, Bool, true, false, List, slice_get, count_by, None, Some}
+use Rattle.std.specs.Prelude.{length, [], ◌∷◌, ◌++◌, ◌-◌, map as each, if◌then◌else◌, ◌≡◌, ℕ, ◌+◌, ◌≤◌, ◌==◌, Bool, true, false, List, slice_get, count_by, None, Some}
 use Rattle.std.specs.List.{list_any}
 use Rattle.std.specs.Option.{is_some}
 use Rattle.std.specs.FinMap as map
@@ -16,10 +16,9 @@ use Rattle.task_states.specs.States.{Unfinished, task_at, status, is_stopped}
 use Rattle.task_types.specs.Meanings.{Meanings}
 use Rattle.cht_history.specs.declared.event.Event.{Event}
 use Rattle.cht_history.specs.declared.event.Event.TheVariants.{Register, Copy, Delete, Ask, Collect, Abandon, Stop, Start, GiveBack, Finish}
-use Rattle.name_states.specs.Rules.{IsSound, AreReached}
 use Rattle.name_machine.specs.Control.{Control, no_control, tidied, effect_with}
 use Rattle.name_machine.specs.Forgetting.{forgotten}
-use Rattle.name_machine.specs.Standing.{machine_of}
+use Rattle.name_machine.specs.Standing.{machine_of, IsOrderly}
 use Rattle.name_machine.specs.States.{Machine, Ask as AskOf, opening, tree_named}
 use Rattle.name_machine.specs.Machine.{IsStep, IsLegalRun}
 use Rattle.name_machine.specs.Facts.{HoldsTogether}
@@ -219,23 +218,23 @@ RefusesUnplanned {K} plans =
 abbrev pub OpeningStands : {C K : Type 0} → Meanings C K → Type 0
 OpeningStands {C} {K} lib = machine_of lib (no_control {B = C} {G = Unit {0}} {K = K}) ≡ opening
 
--- an event that touches no names: a stop, a start, or a give-back
-abbrev pub TouchesNoNames : {K : Type 0} → Event K → Type 0
-TouchesNoNames (Register caller id children) = ⊥
-TouchesNoNames (Copy caller from to) = ⊥
-TouchesNoNames (Delete caller id) = ⊥
-TouchesNoNames (Ask caller number kind inputs) = ⊥
-TouchesNoNames (Collect caller number got) = ⊥
-TouchesNoNames (Abandon caller) = ⊥
-TouchesNoNames (Stop caller) = Unit {0}
-TouchesNoNames (Start worker number) = Unit {0}
-TouchesNoNames (GiveBack worker number) = Unit {0}
-TouchesNoNames (Finish worker number chunks tasks result) = ⊥
+-- An event is one of those below, and registers these contents: a register of one content, with as many children as it wants; a copy,
+-- a stop, a start, or a give-back.
+abbrev pub IsOfThese : {C K : Type 0} → (C → ℕ) → List C → Event K → Type 0
+IsOfThese {C} {K} arity contents (Register caller id children) = (content : C) × (contents ≡ content ∷ []) × (length children ≡ arity content)
+IsOfThese arity contents (Copy caller from to) = Unit {0}
+IsOfThese arity contents (Delete caller id) = ⊥
+IsOfThese arity contents (Ask caller number kind inputs) = ⊥
+IsOfThese arity contents (Collect caller number got) = ⊥
+IsOfThese arity contents (Abandon caller) = ⊥
+IsOfThese arity contents (Stop caller) = Unit {0}
+IsOfThese arity contents (Start worker number) = Unit {0}
+IsOfThese arity contents (GiveBack worker number) = Unit {0}
+IsOfThese arity contents (Finish worker number chunks tasks result) = ⊥
 
--- such an event, where it is allowed, is the step of the machine of its name between the states that are stood for, where the rules
--- of names hold and every body is reached
+-- such an event, where it is allowed, is the step of the machine of its name between the states that are stood for
 abbrev pub StandsStep : {C K : Type 0} → Meanings C K → (C → ℕ) → Plans K → Type 0
 StandsStep {C} {K} lib arity plans =
-    (control : Control C (Unit {0}) K) (contents : List C) (event : Event K) → IsSound arity control.names → AreReached control.names
-    → TouchesNoNames event → is_allowed plans (forgotten arity control) event ≡ true
+    (control : Control C (Unit {0}) K) (contents : List C) (event : Event K) → IsOrderly arity control → HoldsTogether lib (machine_of lib control)
+    → IsOfThese arity contents event → is_allowed plans (forgotten arity control) event ≡ true
     → IsStep lib arity (machine_of lib control) event (machine_of lib (tidied (effect_with control contents event)))

@@ -1,5 +1,5 @@
 -- The state of the machine that a control state with contents stands for.
-use Rattle.std.specs.Prelude.{ℕ, ◌==◌, Bool, false, if◌then◌else◌, List, [], ◌∷◌, map as each, Option, None, Some}
+use Rattle.std.specs.Prelude.{◌≡◌, ℕ, ◌==◌, ◌≤◌, Bool, false, slice_get, if◌then◌else◌, List, [], ◌∷◌, map as each, Option, None, Some}
 use Rattle.std.specs.Option.{option_map}
 use Rattle.std.specs.List.{list_any}
 use Rattle.std.specs.Ordering.{nat_cmp}
@@ -9,10 +9,11 @@ use Rattle.task_types.specs.Tree.{Tree, Nothing}
 use Rattle.task_types.specs.Meanings.{Meanings}
 use Rattle.name_states.specs.declared.holder.Holder.{Holder}
 use Rattle.name_states.specs.declared.holder.Holder.TheVariants.{Caller, Task, Body}
-use Rattle.name_states.specs.States.{NameState, IdRecord}
+use Rattle.name_states.specs.States.{NameState, IdRecord, IsLiveRef}
+use Rattle.name_states.specs.Rules.{IsSound, AreReached, AreWithin}
 use Rattle.name_states.specs.Trees.{body_tree, tree_of}
 use Rattle.task_states.specs.Maps.{chosen}
-use Rattle.task_states.specs.States.{Input, Known, Awaits, Unfinished, Graph}
+use Rattle.task_states.specs.States.{Input, Known, Awaits, Unfinished, Graph, task_at}
 use Rattle.name_machine.specs.States.{Machine, Holding, Ask}
 use Rattle.name_machine.specs.Goals.{goal_within}
 use Rattle.name_machine.specs.Control.{Control, is_uncollected}
@@ -104,3 +105,15 @@ module _ {C K : Type 0} (lib : Meanings C K) where
         asks = chosen (λ task ask. Some (ask_shown control.drawn control.names graph ask)) control.asks;
         graph = graph;
       }
+
+module _ {C K : Type 0} where
+  -- What holds of a control state with contents after each event: the rules of names hold, every body is reached, and no number is
+  -- greater than what was drawn; inputs that are known and outputs that were delivered are null or live; numbers of outputs were drawn.
+  pub record IsOrderly (arity : C → ℕ) (control : Control C (Unit {0}) K) : Type 0 where
+    pub sound : IsSound arity control.names
+    pub reached : AreReached control.names
+    pub within : AreWithin control.names control.drawn
+    pub inputs : (task place : ℕ) (unfinished : Unfinished Ref K) (r : Ref) → task_at control.graph task ≡ Some unfinished
+        → slice_get unfinished.inputs place ≡ Some (Known r) → IsLiveRef control.names r
+    pub outputs : (task : ℕ) (ask : Ask (Unit {0}) Ref) (r : Ref) → map.get control.asks task ≡ Some ask → ask.delivered ≡ Some r → IsLiveRef control.names r
+    pub asked : (task : ℕ) (ask : Ask (Unit {0}) Ref) → map.get control.asks task ≡ Some ask → ask.number ≤ control.drawn

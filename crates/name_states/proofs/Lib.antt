@@ -8,3 +8,4 @@ pub mod Values
 pub mod Within
 pub mod WithoutContents
 pub mod Trees
+pub mod TreeRegistered

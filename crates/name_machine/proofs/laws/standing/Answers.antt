@@ -1,8 +1,9 @@
-use Rattle.name_machine.proofs.Stand.{opening_stands, stands_step}
+use Rattle.name_machine.proofs.Stand.{opening_stands}
+use Rattle.name_machine.proofs.Grow.{stands_step}
 use Rattle.name_machine.proofs.laws.standing.Goals as goal
 
 pub returns-clause-opening : goal.returns-clause-opening
 returns-clause-opening g c = opening_stands g.L.Library.meanings
 
 pub returns-clause-steps : goal.returns-clause-steps
-returns-clause-steps g c = stands_step g.L.Library.meanings g.L.Chunk.Payload.arity
+returns-clause-steps g c = λ plans. stands_step g.L.Library.meanings g.L.Chunk.Payload.arity plans

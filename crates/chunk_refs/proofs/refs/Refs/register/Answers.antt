@@ -9,7 +9,7 @@ use Rattle.name_states.specs.Rules.{IsSound, AreWithin, AreReached}
 use Rattle.chunk_refs.specs.Others.{AreAllAsBefore, IsOnlyNew}
 use Rattle.chunk_refs.specs.Inside.{names_of, all_four, refs_of}
 use Rattle.chunk_refs.proofs.Calls.{register-others, register-held, register-body, register-children}
-use Rattle.chunk_refs.proofs.Grown.{tree-registered}
+use Rattle.name_states.proofs.TreeRegistered.{tree-registered}
 use Rattle.name_states.proofs.Sound.{sound-registered, registered-within}
 use Rattle.chunk_refs.proofs.Padded.{live-padded, present-padded}
 use Rattle.chunk_refs.proofs.Ending.{all-named-once}
