@@ -1,23 +1,14 @@
 -- What identifiers lead to after each call.
-use Rattle.std.proofs.Common.{◌≡◌, ℕ, suc, ◌+◌, ◌<◌, List, [], ◌∷◌, Some, is_some, refl, sym, ap, ◌∙◌, arith}
-use Rattle.std.specs.Prelude.{map as each}
+use Rattle.std.proofs.Common.{◌≡◌, ℕ, sym, ap, ◌∙◌}
 use Rattle.std.specs.Option.{option_map}
 use Rattle.cht_ids.specs.declared.refs.Id.{Id}
-use Rattle.cht_ids.specs.declared.refs.Ref.{Ref}
-use Rattle.cht_ids.specs.declared.refs.Ref.TheVariants.{Null, Id as Held}
-use Rattle.task_types.specs.Tree.{Nothing, rooted}
-use Rattle.name_states.specs.declared.holder.Holder.{Holder}
-use Rattle.name_states.specs.declared.holder.Holder.TheVariants.{Body}
-use Rattle.name_states.specs.States.{NameState, IdRecord, BodyRecord, id_at, record_of, body_record_of, body_named, children_in, owned_by, AreLive, IsLive}
-use Rattle.name_states.specs.Steps.{registered, numbered}
+use Rattle.cht_ids.specs.declared.refs.Ref.TheVariants.{Id as Held}
+use Rattle.name_states.specs.States.{NameState, IdRecord, BodyRecord, record_of, body_record_of, body_named, children_in, IsLive}
 use Rattle.chunk_refs.specs.Others.{IsAsBefore}
-use Rattle.name_states.specs.Trees.{tree_named, led_to, grown, tree_within, body_tree, tree_of}
-use Rattle.name_states.specs.Rules.{IsSound, AreWithin}
-use Rattle.name_states.proofs.Copies.{AreCopies}
-use Rattle.name_states.proofs.Sound.{new-body, new-naming, new-copies, more-registered}
-use Rattle.name_states.proofs.Within.{AreMore, naming_of-kept, owned-same, naming-number}
+use Rattle.name_states.specs.Rules.{IsSound}
+use Rattle.name_states.proofs.Within.{AreMore, naming_of-kept, naming-number}
 use Rattle.name_states.proofs.Basics.{some_value}
-use Rattle.name_states.proofs.Trees.{same-within, tree-kept}
+use Rattle.name_states.proofs.Trees.{tree-kept}
 
 module _ {C : Type 0} where
   body-kept : (arity : C → ℕ) (names more : NameState C) → IsSound arity names → AreMore names more

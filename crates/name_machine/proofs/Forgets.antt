@@ -1,7 +1,6 @@
 -- Leaving contents out of a control state commutes with each event.
-use Rattle.std.proofs.Common.{◌≡◌, ℕ, ◌+◌, Bool, true, false, cond, List, [], ◌∷◌, ◌++◌, map as each, Option, None, Some, refl, sym, ap, ◌∙◌}
+use Rattle.std.proofs.Common.{◌≡◌, ℕ, ◌+◌, cond, List, [], ◌∷◌, ◌++◌, map as each, Option, None, Some, refl, sym, ap, ◌∙◌}
 use Rattle.std.specs.Option.{option_map}
-use Rattle.cht_ids.specs.declared.refs.Id.{Id}
 use Rattle.cht_ids.specs.declared.refs.Ref.{Ref}
 use Rattle.cht_ids.specs.declared.refs.Ref.TheVariants.{Null as NullRef, Id as Held}
 use Rattle.task_types.specs.declared.outcome.Place.{Place}
@@ -11,7 +10,7 @@ use Rattle.task_types.specs.declared.outcome.NewTask.{NewTask}
 use Rattle.task_types.specs.Places.{places_of}
 use Rattle.name_states.specs.declared.holder.Holder.{Holder}
 use Rattle.name_states.specs.declared.holder.Holder.TheVariants.{Caller as ByCaller, Task as ByTask}
-use Rattle.name_states.specs.States.{NameState, IdRecord, BodyRecord, body_at, record_of, body_named, children_in, children_of}
+use Rattle.name_states.specs.States.{NameState, IdRecord, BodyRecord, body_at, record_of, body_named, children_in}
 use Rattle.name_states.specs.Steps.{drawn_by, linked_ref, linked}
 use Rattle.name_states.specs.Steps as names
 use Rattle.name_states.specs.WithoutContents.{without_content, without_contents}
@@ -22,7 +21,7 @@ use Rattle.cht_history.specs.declared.event.Event.{Event}
 use Rattle.cht_history.specs.declared.event.Event.TheVariants.{Register, Copy, Delete, Ask as AskEvent, Collect, Abandon, Stop, Start, GiveBack, Finish}
 use Rattle.name_machine.specs.NewTasks.{taken, drawn_by_tasks, task_numbers, with_tasks}
 use Rattle.name_machine.specs.Control.{Control, Grown, ref_at, with_number, ref_known, child_named, ref_named, copy_of, copies_of, awaiting, chunk_more, chunks_more, input_copies, task_copies, tidied, with_chunks, with_new_tasks, settled_to, resolved_to, without_task, finish_event, after_finish, after_register, effect_with}
-use Rattle.name_machine.specs.Replay.{Plans, Replayed, arities, is_allowed, effect, happens}
+use Rattle.name_machine.specs.Replay.{Plans, Replayed, effect}
 use Rattle.name_machine.specs.Forgetting.{forgotten, ForgettingReplays}
 
 module _ {C : Type 0} (arity : C → ℕ) where

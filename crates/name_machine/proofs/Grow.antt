@@ -1,5 +1,5 @@
 -- What a control state stands for, where names grow: a copy and a register.
-use Rattle.std.proofs.Common.{◌≡◌, ℕ, zero, suc, ◌+◌, ◌<◌, ◌≤◌, ◌⊎◌, inl, inr, Bool, true, false, cond, not, ◌&&◌, nat_eq, nat_le, nat_cmp, List, [], ◌∷◌, map as each, slice_get, length, Option, None, Some, is_some, IsSome, refl, sym, ap, subst, ◌∙◌, arith}
+use Rattle.std.proofs.Common.{◌≡◌, ℕ, zero, suc, ◌+◌, ◌<◌, ◌≤◌, ◌⊎◌, inl, inr, Bool, true, false, cond, ◌&&◌, nat_eq, nat_le, List, [], ◌∷◌, map as each, slice_get, length, Option, None, Some, is_some, IsSome, refl, sym, ap, subst, ◌∙◌, arith}
 use Rattle.std.specs.Option.{option_map}
 use Rattle.std.specs.List.{list_all, list_any}
 use Rattle.std.specs.FinMap as map
@@ -12,12 +12,12 @@ use Rattle.task_types.proofs.FormedTest.{both_left, both_right}
 use Rattle.name_states.specs.declared.holder.Holder.{Holder}
 use Rattle.name_states.specs.declared.holder.Holder.TheVariants.{Caller, Task, Body}
 use Rattle.name_states.specs.States.{NameState, IdRecord, BodyRecord, id_at, body_at, record_of, owned_by, IsLiveRef, AreLive}
-use Rattle.name_states.specs.Rules.{IsSound, AreReached, AreWithin}
+use Rattle.name_states.specs.Rules.{IsSound, AreReached}
 use Rattle.name_states.specs.Reached.{IsReached, Outside}
 use Rattle.name_states.specs.Steps.{present, numbered}
 use Rattle.name_states.specs.Steps as names
 use Rattle.name_states.specs.Trees.{tree_named, body_tree, tree_of}
-use Rattle.name_states.proofs.Basics.{none_not_some, none_or_some, same_some, same_or_not, same_options, same_from_test, test_same, some_value, inserted_here, inserted_other, inserted_from}
+use Rattle.name_states.proofs.Basics.{none_not_some, none_or_some, same_some, same_or_not, same_options, same_from_test, test_same, inserted_here, inserted_other, inserted_from}
 use Rattle.name_states.proofs.Trees.{tree-kept, body-tree-kept}
 use Rattle.name_states.proofs.Within.{AreMore, owned-same, naming-number, unnamed-next, copied-keeps}
 use Rattle.name_states.proofs.Copies.{bodies-linked, copied-here, copied-from, bodies-with_copy}
@@ -28,14 +28,13 @@ use Rattle.name_states.proofs.SweptOnce.{nothing_goes}
 use Rattle.task_states.specs.Maps.{chosen}
 use Rattle.task_states.specs.States.{Input, Known, Awaits, Unfinished, Graph, task_at}
 use Rattle.task_states.proofs.Maps.{same_maps}
-use Rattle.cht_history.specs.declared.event.Event.{Event}
 use Rattle.cht_history.specs.declared.event.Event.TheVariants.{Register, Copy, Delete, Ask as AskEvent, Collect, Abandon, Stop, Start, GiveBack, Finish}
 use Rattle.name_machine.specs.States.{Machine, Holding, Ask, MayMention, MayMentionAll, is_of, mine, held_by, tree_of_holding}
 use Rattle.name_machine.specs.States as machine
 use Rattle.name_machine.specs.Machine.{Copies, Registers}
 use Rattle.name_machine.specs.Replay.{Plans, is_id, is_caller, is_callers, is_mine, may_mention, is_allowed}
 use Rattle.name_machine.specs.Forgetting.{forgotten}
-use Rattle.name_machine.specs.Goals.{read_input, goal_from, goal_within}
+use Rattle.name_machine.specs.Goals.{goal_from, goal_within}
 use Rattle.name_machine.specs.Facts.{HasLevels, HoldsTogether}
 use Rattle.name_machine.specs.Control.{Control, is_uncollected, tidied, copy_event, register_event, after_register}
 use Rattle.name_machine.specs.Standing.{input_shown, task_shown, graph_shown, is_output, holding_shown, held_shown, asked_among, goal_shown, ask_shown, machine_of, IsOrderly}

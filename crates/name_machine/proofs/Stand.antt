@@ -1,5 +1,5 @@
 -- What a control state stands for: at the opening, and through events that touch no names.
-use Rattle.std.proofs.Common.{◌≡◌, ℕ, zero, suc, Bool, true, false, cond, not, ◌&&◌, nat_eq, nat_cmp, List, [], ◌∷◌, map as each, inl, inr, Option, None, Some, is_some, refl, sym, ap, subst, ◌∙◌}
+use Rattle.std.proofs.Common.{◌≡◌, ℕ, zero, suc, Bool, true, false, cond, not, nat_cmp, List, [], ◌∷◌, map as each, inl, inr, Option, None, Some, is_some, refl, sym, ap, ◌∙◌}
 use Rattle.std.specs.Option.{option_map, option_and_then}
 use Rattle.std.specs.List.{list_any}
 use Rattle.std.specs.FinMap as map
@@ -12,7 +12,7 @@ use Rattle.name_states.specs.States.{NameState, IdRecord, no_names}
 use Rattle.name_states.specs.Rules.{IsSound, AreReached}
 use Rattle.name_states.specs.Trees.{tree_of}
 use Rattle.name_states.specs.WithoutContents.{each_value}
-use Rattle.name_states.proofs.Basics.{none_not_some, none_or_some, same_some, same_or_not, same_from_test, test_same}
+use Rattle.name_states.proofs.Basics.{same_or_not, test_same}
 use Rattle.name_states.proofs.SweptOnce.{nothing_goes}
 use Rattle.name_states.proofs.Values.{replaced, entries_replaced, get_each_value}
 use Rattle.task_states.specs.declared.states.TaskStatus.{TaskStatus}
@@ -23,11 +23,11 @@ use Rattle.task_states.specs.Steps.{with_task, with_stopped}
 use Rattle.task_states.proofs.Maps.{get-chosen, same_maps}
 use Rattle.cht_history.specs.declared.event.Event.{Event}
 use Rattle.cht_history.specs.declared.event.Event.TheVariants.{Register, Copy, Delete, Ask as AskEvent, Collect, Abandon, Stop, Start, GiveBack, Finish}
-use Rattle.name_machine.specs.States.{Machine, Holding, Ask, is_of, has_ask, opening, Runs}
-use Rattle.name_machine.specs.Steps.{stopped, begun, put_back}
+use Rattle.name_machine.specs.States.{Holding, Ask, is_of, has_ask}
+use Rattle.name_machine.specs.Steps.{stopped}
 use Rattle.name_machine.specs.Goals.{read_input, goal_from, goal_within}
 use Rattle.name_machine.specs.Machine.{IsStep}
-use Rattle.name_machine.specs.Control.{Control, no_control, tidied, effect_with}
+use Rattle.name_machine.specs.Control.{Control, tidied, effect_with}
 use Rattle.name_machine.specs.Replay.{Plans, is_ready, is_runner, is_run_by, runs_nothing, is_allowed}
 use Rattle.name_machine.specs.Forgetting.{forgotten}
 use Rattle.name_machine.specs.Standing.{held_shown, input_shown, task_shown, graph_shown, is_asked_under, asked_among, goal_shown, ask_shown, machine_of}

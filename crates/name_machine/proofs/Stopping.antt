@@ -1,12 +1,12 @@
 -- A stopped caller's asks are older than its stop.
-use Rattle.std.proofs.Common.{◌≡◌, ℕ, ◌+◌, ◌⊎◌, inl, inr, Bool, true, false, not, ◌&&◌, ◌||◌, nat_eq, nat_cmp, List, [], ◌∷◌, ◌++◌, refl, sym, ap, subst, ◌∙◌}
+use Rattle.std.proofs.Common.{◌≡◌, ℕ, ◌⊎◌, inl, inr, Bool, true, false, not, ◌&&◌, ◌||◌, nat_eq, nat_cmp, List, [], ◌∷◌, ◌++◌, refl, sym, ap, subst, ◌∙◌}
 use Rattle.std.specs.List.{list_any}
 use Rattle.std.specs.Cmp.{nat_cmp_total, unsigned_tied}
 use Rattle.std.specs.FinMap as map
 use Rattle.std.specs.FinSet as numbers
 use Rattle.task_types.specs.Tree.{Tree, Nothing, Root}
 use Rattle.task_types.specs.Meanings.{Meanings}
-use Rattle.task_states.specs.States.{Graph, is_stopped}
+use Rattle.task_states.specs.States.{is_stopped}
 use Rattle.task_types.proofs.FormedTest.{both_right}
 use Rattle.name_states.proofs.Basics.{same_or_not, same_from_test, test_same, test_apart, one_of}
 use Rattle.cht_history.specs.declared.event.Event.{Event}

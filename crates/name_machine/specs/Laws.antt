@@ -218,23 +218,23 @@ RefusesUnplanned {K} plans =
 abbrev pub OpeningStands : {C K : Type 0} → Meanings C K → Type 0
 OpeningStands {C} {K} lib = machine_of lib (no_control {B = C} {G = Unit {0}} {K = K}) ≡ opening
 
--- An event is one of those below, and registers these contents: a register of one content, with as many children as it wants; a copy,
--- a stop, a start, or a give-back.
-abbrev pub IsOfThese : {C K : Type 0} → (C → ℕ) → List C → Event K → Type 0
-IsOfThese {C} {K} arity contents (Register caller id children) = (content : C) × (contents ≡ content ∷ []) × (length children ≡ arity content)
-IsOfThese arity contents (Copy caller from to) = Unit {0}
-IsOfThese arity contents (Delete caller id) = ⊥
-IsOfThese arity contents (Ask caller number kind inputs) = ⊥
-IsOfThese arity contents (Collect caller number got) = ⊥
-IsOfThese arity contents (Abandon caller) = ⊥
-IsOfThese arity contents (Stop caller) = Unit {0}
-IsOfThese arity contents (Start worker number) = Unit {0}
-IsOfThese arity contents (GiveBack worker number) = Unit {0}
-IsOfThese arity contents (Finish worker number chunks tasks result) = ⊥
+-- An event asks nothing and ends nothing, and registers these contents: a register of one content, with as many children as it wants; a
+-- copy, a stop, a start, or a give-back.
+abbrev pub AsksAndEndsNothing : {C K : Type 0} → (C → ℕ) → List C → Event K → Type 0
+AsksAndEndsNothing {C} {K} arity contents (Register caller id children) = (content : C) × (contents ≡ content ∷ []) × (length children ≡ arity content)
+AsksAndEndsNothing arity contents (Copy caller from to) = Unit {0}
+AsksAndEndsNothing arity contents (Delete caller id) = ⊥
+AsksAndEndsNothing arity contents (Ask caller number kind inputs) = ⊥
+AsksAndEndsNothing arity contents (Collect caller number got) = ⊥
+AsksAndEndsNothing arity contents (Abandon caller) = ⊥
+AsksAndEndsNothing arity contents (Stop caller) = Unit {0}
+AsksAndEndsNothing arity contents (Start worker number) = Unit {0}
+AsksAndEndsNothing arity contents (GiveBack worker number) = Unit {0}
+AsksAndEndsNothing arity contents (Finish worker number chunks tasks result) = ⊥
 
 -- such an event, where it is allowed, is the step of the machine of its name between the states that are stood for
 abbrev pub StandsStep : {C K : Type 0} → Meanings C K → (C → ℕ) → Plans K → Type 0
 StandsStep {C} {K} lib arity plans =
     (control : Control C (Unit {0}) K) (contents : List C) (event : Event K) → IsOrderly arity control → HoldsTogether lib (machine_of lib control)
-    → IsOfThese arity contents event → is_allowed plans (forgotten arity control) event ≡ true
+    → AsksAndEndsNothing arity contents event → is_allowed plans (forgotten arity control) event ≡ true
     → IsStep lib arity (machine_of lib control) event (machine_of lib (tidied (effect_with control contents event)))
