@@ -20,8 +20,8 @@ use Rattle.name_machine.specs.States.{Ask}
 use Rattle.name_machine.specs.NewTasks.{number_at, task_numbers}
 use Rattle.name_machine.specs.Steps.{tree_known}
 use Rattle.name_machine.specs.Goals.{read_input, goal_within}
-use Rattle.name_machine.proofs.Invariant.{Keeps, own_readings, same_readings}
-use Rattle.name_machine.proofs.Finishing.{final, later, goals, base, more, task_goals, chunk_trees, from_final, old_final, new_final, old_reads, new_reads, low_base, call_at, number_high, index_is, goals_after, kept_by_finish, one_there, known_trees}
+use Rattle.name_machine.proofs.Invariant.{known_trees, Keeps, own_readings, same_readings}
+use Rattle.name_machine.proofs.Finishing.{final, later, goals, base, more, task_goals, chunk_trees, from_final, old_final, new_final, old_reads, new_reads, low_base, call_at, number_high, index_is, goals_after, kept_by_finish, one_there}
 use Rattle.name_machine.proofs.Works.{works_by, work_by, work_from, work_to, works_alike}
 use Rattle.name_machine.proofs.Totals.{total, total_removed}
 use Rattle.name_machine.proofs.WorksIn.{works_in, in_low, in_new, in_from, in_total}

@@ -30,7 +30,7 @@ use Rattle.name_machine.specs.Goals.{read_input}
 use Rattle.name_machine.specs.Facts.{AwaitsTask, EndsAtAsk, Asked, Awaited}
 use Rattle.name_machine.proofs.Tasks.{mapped_from}
 use Rattle.name_machine.proofs.Ends.{inputs_at, ends_there}
-use Rattle.name_machine.proofs.Invariant.{Keeps, IsAskFor, IsServedBy}
+use Rattle.name_machine.proofs.Invariant.{known_trees, Keeps, IsAskFor, IsServedBy}
 use Rattle.name_machine.proofs.Added.{number_drawn, numbers_rise, tree_for, tree_for-number, awaits_named, named_awaits, new_inputs_read, new_of, IsNew, old_stays, new_from, new_at}
 use Rattle.name_machine.proofs.Stands.{Stand, ByValue, ByTask, replaced, asked_then, input_then, input_stays, input_moves, inputs_stay, Stands, replaced_read, become, stood, stood_gone, stood_at}
 use Rattle.name_machine.proofs.Answered.{answer, asks_then, asks_from, asks_to, answer_caller, answer_number, answer_goal, answer_other, answer_here}
@@ -81,13 +81,6 @@ same_task i (AtInput k) is = absurd (let clash : false ≡ true = is in cc)
 same_task i (Child k l) is = absurd (let clash : false ≡ true = is in cc)
 same_task i (Chunk k) is = absurd (let clash : false ≡ true = is in cc)
 same_task i (Task k) is = ap Task (sym (same_from_test i k is))
-
--- inputs that await nothing read as they are
-pub known_trees : {C : Type 0} (goals : ℕ → Tree C) (inputs : List (Input (Tree C))) → ((p a n : ℕ) → slice_get inputs p ≡ Some (Awaits a n) → ⊥)
-    → each (read_input goals) inputs ≡ each tree_known inputs
-known_trees goals [] none = refl
-known_trees goals (Known tree ∷ inputs) none = ap (λ rest. tree ∷ rest) (known_trees goals inputs (λ p a n is. none (suc p) a n is))
-known_trees goals (Awaits a n ∷ inputs) none = absurd (none 0 a n refl)
 
 -- what stands in a finished task's place
 abbrev pub stand_of : {C : Type 0} → List ℕ → (Place → Tree C) → Place → Stand (Tree C)
