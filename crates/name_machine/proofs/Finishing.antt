@@ -20,7 +20,7 @@ use Rattle.task_types.specs.Reading.{reading, Call, goals_of, call_of, new_trees
 use Rattle.task_types.specs.Sound.{IsSound}
 use Rattle.task_types.proofs.FormedTest.{both_left, both_right}
 use Rattle.task_types.proofs.Reading.{tree_at-some, slice_get-new_calls}
-use Rattle.task_states.specs.States.{Input, Known, Awaits, Unfinished, Graph, task_at, asked_of, is_stopped}
+use Rattle.task_states.specs.States.{Input, Awaits, Unfinished, Graph, task_at, asked_of, is_stopped}
 use Rattle.name_states.proofs.Basics.{none_not_some, same_some, same_or_not, one_of, same_from_test, test_same, test_apart}
 use Rattle.name_machine.specs.States.{Ask}
 use Rattle.task_states.specs.Steps.{added, inputs_redirected, asked_moved}

@@ -28,7 +28,7 @@ use Rattle.name_states.proofs.SweptOnce.{nothing_goes}
 use Rattle.task_states.specs.Maps.{chosen}
 use Rattle.task_states.specs.States.{Input, Known, Awaits, Unfinished, Graph, task_at}
 use Rattle.task_states.proofs.Maps.{same_maps}
-use Rattle.cht_history.specs.declared.event.Event.TheVariants.{Register, Copy, Delete, Ask as AskEvent, Collect, Abandon, Stop, Start, GiveBack, Finish}
+use Rattle.cht_history.specs.declared.event.Event.TheVariants.{Register, Copy}
 use Rattle.name_machine.specs.States.{Machine, Holding, Ask, MayMention, MayMentionAll, is_of, mine, held_by, tree_of_holding}
 use Rattle.name_machine.specs.States as machine
 use Rattle.name_machine.specs.Machine.{Copies, Registers}
@@ -36,14 +36,13 @@ use Rattle.name_machine.specs.Replay.{Plans, is_id, is_caller, is_callers, is_mi
 use Rattle.name_machine.specs.Forgetting.{forgotten}
 use Rattle.name_machine.specs.Goals.{goal_from, goal_within}
 use Rattle.name_machine.specs.Facts.{HasLevels, HoldsTogether}
-use Rattle.name_machine.specs.Control.{Control, is_uncollected, tidied, copy_event, register_event, after_register}
+use Rattle.name_machine.specs.Control.{Control, is_uncollected, tidied, copy_event, register_event}
 use Rattle.name_machine.specs.Standing.{input_shown, task_shown, graph_shown, is_output, holding_shown, held_shown, asked_among, goal_shown, ask_shown, machine_of, IsOrderly}
 use Rattle.name_machine.proofs.Values.{any_to}
 use Rattle.name_machine.proofs.Ends.{inputs_at}
 use Rattle.name_machine.proofs.Invariant.{same_readings}
 use Rattle.name_machine.proofs.Works.{chosen_from, chosen_to}
-use Rattle.name_machine.proofs.Stand.{shown_at, not_true, stands_still}
-use Rattle.name_machine.specs.Laws.{StandsStep}
+use Rattle.name_machine.proofs.Stand.{shown_at, not_true}
 
 -- ---- Depths
 
@@ -134,7 +133,7 @@ module _ {C K : Type 0} (lib : Meanings C K) (arity : C → ℕ) (control : Cont
   holder_same entry (Task task) same = refl
   holder_same entry (Body body) same = refl
 
-  held_same : (q : ℕ) (entry : IdRecord) → id_at control.names q ≡ Some entry → held_shown control.asks more q entry ≡ held_shown control.asks control.names q entry
+  pub held_same : (q : ℕ) (entry : IdRecord) → id_at control.names q ≡ Some entry → held_shown control.asks more q entry ≡ held_shown control.asks control.names q entry
   held_same q entry is =
       ap (λ o. cond (is_output control.asks q entry.holder) None o) (holder_same entry entry.holder (body-tree-kept arity control.names more orderly.sound is_more entry.body (ap is_some (orderly.sound.named q entry is).1)))
 
@@ -289,7 +288,7 @@ module _ {C K : Type 0} (lib : Meanings C K) (arity : C → ℕ) (control : Cont
   may_be caller (Held id) is =
       let its = mine_of caller id is in ((ap is_some (mine_held caller id its), ap is_some its.named), mine_tree caller id its)
 
-  may_all : (caller : ℕ) (refs : List Ref) → list_all (may_mention (forgotten arity control) caller) refs ≡ true
+  pub may_all : (caller : ℕ) (refs : List Ref) → list_all (may_mention (forgotten arity control) caller) refs ≡ true
       → (MayMentionAll (machine_of lib control) caller refs × AreLive control.names refs) × (each (machine.tree_named (machine_of lib control)) refs ≡ each (tree_of control.names) refs)
   may_all caller [] is = ((tt, tt), refl)
   may_all caller (r ∷ refs) is =
@@ -356,25 +355,3 @@ module _ {C K : Type 0} (lib : Meanings C K) (arity : C → ℕ) (control : Cont
               ]
             ]);
       }
-
--- ---- All that is proved of steps
-
-module _ {C K : Type 0} (lib : Meanings C K) (arity : C → ℕ) (plans : Plans K) where
-  register_some : (control : Control C (Unit {0}) K) (contents : List C) (caller : ℕ) (id : Id) (children : List Ref) → IsOrderly arity control → HoldsTogether lib (machine_of lib control)
-      → (content : C) → contents ≡ content ∷ [] → length children ≡ arity content → is_allowed plans (forgotten arity control) (Register caller id children) ≡ true
-      → Registers lib arity (machine_of lib control) (machine_of lib (tidied (after_register control caller contents children))) caller id children
-  register_some control contents caller id children orderly facts content is many allowed =
-      subst (λ all. Registers lib arity (machine_of lib control) (machine_of lib (tidied (after_register control caller all children))) caller id children) (sym is)
-      (register_stands lib arity control orderly plans caller id children content many facts allowed)
-
-  pub stands_step : StandsStep lib arity plans
-  stands_step control contents (Register caller id children) orderly facts these allowed = register_some control contents caller id children orderly facts these.0 these.1 these.2 allowed
-  stands_step control contents (Copy caller from to) orderly facts these allowed = copy_stands lib arity control orderly plans caller from to facts allowed
-  stands_step control contents (Delete caller id) orderly facts these allowed = absurd these
-  stands_step control contents (AskEvent caller task kind inputs) orderly facts these allowed = absurd these
-  stands_step control contents (Collect caller task got) orderly facts these allowed = absurd these
-  stands_step control contents (Abandon caller) orderly facts these allowed = absurd these
-  stands_step control contents (Stop caller) orderly facts these allowed = stands_still lib arity plans control contents (Stop caller) orderly.sound orderly.reached tt allowed
-  stands_step control contents (Start worker task) orderly facts these allowed = stands_still lib arity plans control contents (Start worker task) orderly.sound orderly.reached tt allowed
-  stands_step control contents (GiveBack worker task) orderly facts these allowed = stands_still lib arity plans control contents (GiveBack worker task) orderly.sound orderly.reached tt allowed
-  stands_step control contents (Finish worker task chunks tasks result) orderly facts these allowed = absurd these

@@ -25,3 +25,7 @@ pub mod Stopping
 pub mod Forgets
 pub mod Stand
 pub mod Grow
+pub mod Linking
+pub mod AskedFor
+pub mod AskStands
+pub mod StandsStep

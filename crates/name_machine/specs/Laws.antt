@@ -218,23 +218,23 @@ RefusesUnplanned {K} plans =
 abbrev pub OpeningStands : {C K : Type 0} → Meanings C K → Type 0
 OpeningStands {C} {K} lib = machine_of lib (no_control {B = C} {G = Unit {0}} {K = K}) ≡ opening
 
--- An event asks nothing and ends nothing, and registers these contents: a register of one content, with as many children as it wants; a
--- copy, a stop, a start, or a give-back.
-abbrev pub AsksAndEndsNothing : {C K : Type 0} → (C → ℕ) → List C → Event K → Type 0
-AsksAndEndsNothing {C} {K} arity contents (Register caller id children) = (content : C) × (contents ≡ content ∷ []) × (length children ≡ arity content)
-AsksAndEndsNothing arity contents (Copy caller from to) = Unit {0}
-AsksAndEndsNothing arity contents (Delete caller id) = ⊥
-AsksAndEndsNothing arity contents (Ask caller number kind inputs) = ⊥
-AsksAndEndsNothing arity contents (Collect caller number got) = ⊥
-AsksAndEndsNothing arity contents (Abandon caller) = ⊥
-AsksAndEndsNothing arity contents (Stop caller) = Unit {0}
-AsksAndEndsNothing arity contents (Start worker number) = Unit {0}
-AsksAndEndsNothing arity contents (GiveBack worker number) = Unit {0}
-AsksAndEndsNothing arity contents (Finish worker number chunks tasks result) = ⊥
+-- An event ends nothing, and what the machine asks of it beside a replay is so: a register of one content, with as many children as it
+-- wants; an ask whose goal is defined on the trees of what is mentioned; a copy, a stop, a start, or a give-back.
+abbrev pub EndsNothing : {C K : Type 0} → Meanings C K → (C → ℕ) → Machine C K → List C → Event K → Type 0
+EndsNothing {C} {K} lib arity before contents (Register caller id children) = (content : C) × (contents ≡ content ∷ []) × (length children ≡ arity content)
+EndsNothing lib arity before contents (Copy caller from to) = Unit {0}
+EndsNothing lib arity before contents (Delete caller id) = ⊥
+EndsNothing lib arity before contents (Ask caller number kind inputs) = lib.defined kind (each (tree_named before) inputs)
+EndsNothing lib arity before contents (Collect caller number got) = ⊥
+EndsNothing lib arity before contents (Abandon caller) = ⊥
+EndsNothing lib arity before contents (Stop caller) = Unit {0}
+EndsNothing lib arity before contents (Start worker number) = Unit {0}
+EndsNothing lib arity before contents (GiveBack worker number) = Unit {0}
+EndsNothing lib arity before contents (Finish worker number chunks tasks result) = ⊥
 
 -- such an event, where it is allowed, is the step of the machine of its name between the states that are stood for
 abbrev pub StandsStep : {C K : Type 0} → Meanings C K → (C → ℕ) → Plans K → Type 0
 StandsStep {C} {K} lib arity plans =
     (control : Control C (Unit {0}) K) (contents : List C) (event : Event K) → IsOrderly arity control → HoldsTogether lib (machine_of lib control)
-    → AsksAndEndsNothing arity contents event → is_allowed plans (forgotten arity control) event ≡ true
+    → EndsNothing lib arity (machine_of lib control) contents event → is_allowed plans (forgotten arity control) event ≡ true
     → IsStep lib arity (machine_of lib control) event (machine_of lib (tidied (effect_with control contents event)))

@@ -58,8 +58,8 @@ pub fn forgetting_replays<C, K>()
     ensures { (arity : C → ℕ) (plans : Plans K) → ForgettingReplays arity plans }
 {}
 
-/// What a control state with contents stands for: the opening state stands for the opening state, and a stop, a start
-/// and a give-back are the machine's steps between the states that are stood for.
+/// What a control state with contents stands for: the opening state stands for the opening state, and a register, a
+/// copy, an ask, a stop, a start and a give-back are the machine's steps between the states that are stood for.
 pub fn standing<L: Library>()
     ensures opening { OpeningStands L.meanings }
     ensures steps { (plans : Plans L.Kind) → StandsStep L.meanings L.Chunk.arity plans }

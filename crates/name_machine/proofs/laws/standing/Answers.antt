@@ -1,5 +1,5 @@
 use Rattle.name_machine.proofs.Stand.{opening_stands}
-use Rattle.name_machine.proofs.Grow.{stands_step}
+use Rattle.name_machine.proofs.StandsStep.{stands_step}
 use Rattle.name_machine.proofs.laws.standing.Goals as goal
 
 pub returns-clause-opening : goal.returns-clause-opening
