@@ -29,3 +29,4 @@ pub mod Linking
 pub mod AskedFor
 pub mod AskStands
 pub mod StandsStep
+pub mod Empty

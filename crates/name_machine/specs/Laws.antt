@@ -1,5 +1,5 @@
 -- The laws of the machine and of replay, as statements. The functions of `laws` carry each as their contract.
-use Rattle.std.specs.Prelude.{length, [], ◌∷◌, ◌++◌, ◌-◌, map as each, if◌then◌else◌, ◌≡◌, ℕ, ◌+◌, ◌≤◌, ◌==◌, Bool, true, false, List, slice_get, count_by, None, Some}
+use Rattle.std.specs.Prelude.{◌↔◌, length, [], ◌∷◌, ◌++◌, ◌-◌, map as each, if◌then◌else◌, ◌≡◌, ℕ, ◌+◌, ◌≤◌, ◌==◌, Bool, true, false, List, slice_get, count_by, None, Some}
 use Rattle.std.specs.List.{list_any}
 use Rattle.std.specs.Option.{is_some}
 use Rattle.std.specs.FinMap as map
@@ -18,7 +18,7 @@ use Rattle.cht_history.specs.declared.event.Event.{Event}
 use Rattle.cht_history.specs.declared.event.Event.TheVariants.{Register, Copy, Delete, Ask, Collect, Abandon, Stop, Start, GiveBack, Finish}
 use Rattle.name_machine.specs.Control.{Control, no_control, tidied, effect_with}
 use Rattle.name_machine.specs.Forgetting.{forgotten}
-use Rattle.name_machine.specs.Standing.{machine_of, IsOrderly}
+use Rattle.name_machine.specs.Standing.{machine_of, IsOrderly, HasNothing, HoldsNothing}
 use Rattle.name_machine.specs.States.{Machine, Ask as AskOf, opening, tree_named}
 use Rattle.name_machine.specs.Machine.{IsStep, IsLegalRun}
 use Rattle.name_machine.specs.Facts.{HoldsTogether}
@@ -217,6 +217,11 @@ RefusesUnplanned {K} plans =
 -- the opening state stands for the opening state, and has nothing in it
 abbrev pub OpeningStands : {C K : Type 0} → Meanings C K → Type 0
 OpeningStands {C} {K} lib = machine_of lib (no_control {B = C} {G = Unit {0}} {K = K}) ≡ opening
+
+-- a state in which nothing is held, asked or unfinished is stood for exactly by the control states that have nothing
+abbrev pub EmptyBothWays : {C K : Type 0} → Meanings C K → (C → ℕ) → Type 0
+EmptyBothWays {C} {K} lib arity =
+    (control : Control C (Unit {0}) K) → IsOrderly arity control → HasNothing control ↔ HoldsNothing (machine_of lib control)
 
 -- An event ends nothing, and what the machine asks of it beside a replay is so: a register of one content, with as many children as it
 -- wants; an ask whose goal is defined on the trees of what is mentioned; a copy, a stop, a start, or a give-back.

@@ -1,5 +1,5 @@
 -- The state of the machine that a control state with contents stands for.
-use Rattle.std.specs.Prelude.{◌≡◌, ℕ, ◌==◌, ◌≤◌, Bool, false, slice_get, if◌then◌else◌, List, [], ◌∷◌, map as each, Option, None, Some}
+use Rattle.std.specs.Prelude.{◌≡◌, ℕ, ◌==◌, ◌≤◌, Bool, false, slice_get, IsSome, if◌then◌else◌, List, [], ◌∷◌, map as each, Option, None, Some}
 use Rattle.std.specs.Option.{option_map}
 use Rattle.std.specs.List.{list_any}
 use Rattle.std.specs.Ordering.{nat_cmp}
@@ -9,11 +9,11 @@ use Rattle.task_types.specs.Tree.{Tree}
 use Rattle.task_types.specs.Meanings.{Meanings}
 use Rattle.name_states.specs.declared.holder.Holder.{Holder}
 use Rattle.name_states.specs.declared.holder.Holder.TheVariants.{Caller, Task, Body}
-use Rattle.name_states.specs.States.{NameState, IdRecord, IsLiveRef}
+use Rattle.name_states.specs.States.{NameState, IdRecord, id_at, IsLiveRef, live_ids, live_bodies}
 use Rattle.name_states.specs.Rules.{IsSound, AreReached, AreWithin}
 use Rattle.name_states.specs.Trees.{body_tree, tree_of}
 use Rattle.task_states.specs.Maps.{chosen}
-use Rattle.task_states.specs.States.{Input, Known, Awaits, Unfinished, Graph, task_at}
+use Rattle.task_states.specs.States.{Input, Known, Awaits, Unfinished, Graph, task_at, is_stopped}
 use Rattle.name_machine.specs.States.{Machine, Holding, Ask}
 use Rattle.name_machine.specs.Goals.{goal_within}
 use Rattle.name_machine.specs.Control.{Control, is_uncollected}
@@ -108,7 +108,8 @@ module _ {C K : Type 0} (lib : Meanings C K) where
 
 module _ {C K : Type 0} where
   -- What holds of a control state with contents after each event: the rules of names hold, every body is reached, and no number is
-  -- greater than what was drawn; inputs that are known and outputs that were delivered are null or live; numbers of outputs were drawn.
+  -- greater than what was drawn; inputs that are known and outputs that were delivered are null or live; a task that holds an identifier
+  -- is unfinished; numbers of outputs were drawn.
   pub record IsOrderly (arity : C → ℕ) (control : Control C (Unit {0}) K) : Type 0 where
     pub sound : IsSound arity control.names
     pub reached : AreReached control.names
@@ -116,4 +117,17 @@ module _ {C K : Type 0} where
     pub inputs : (task place : ℕ) (unfinished : Unfinished Ref K) (r : Ref) → task_at control.graph task ≡ Some unfinished
         → slice_get unfinished.inputs place ≡ Some (Known r) → IsLiveRef control.names r
     pub outputs : (task : ℕ) (ask : Ask (Unit {0}) Ref) (r : Ref) → map.get control.asks task ≡ Some ask → ask.delivered ≡ Some r → IsLiveRef control.names r
+    pub holders : (number task : ℕ) (entry : IdRecord) → id_at control.names number ≡ Some entry → entry.holder ≡ Task task → IsSome (task_at control.graph task)
     pub asked : (task : ℕ) (ask : Ask (Unit {0}) Ref) → map.get control.asks task ≡ Some ask → ask.number ≤ control.drawn
+
+-- nothing is live, registered, asked or unfinished, and nobody is stopped
+abbrev pub HasNothing : {C K : Type 0} → Control C (Unit {0}) K → Type 0
+HasNothing control =
+    (live_ids control.names ≡ 0) × (live_bodies control.names ≡ 0) × (map.len control.asks ≡ 0) × (map.len control.graph.tasks ≡ 0)
+    × ((caller : ℕ) → is_stopped control.graph caller ≡ false)
+
+-- nothing is held, asked or unfinished, and nobody is stopped
+abbrev pub HoldsNothing : {C K : Type 0} → Machine C K → Type 0
+HoldsNothing machine =
+    (map.len machine.holdings ≡ 0) × (map.len machine.asks ≡ 0) × (map.len machine.graph.tasks ≡ 0)
+    × ((caller : ℕ) → is_stopped machine.graph caller ≡ false)

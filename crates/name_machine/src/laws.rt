@@ -4,7 +4,7 @@
 ghost use Rattle.std.specs.Prelude.{ℕ};
 ghost use Rattle.name_machine.specs.Forgetting.{ForgettingReplays};
 ghost use Rattle.name_machine.specs.Replay.{Plans};
-ghost use Rattle.name_machine.specs.Laws.{AccountsChange, LeavesCallers, LeavesWorkers, FactsHold, StopsAreLast, StopsEnd, FinishedOnce, RefusesStrange, DeadIsStrange, OthersAreStrange, UncollectedIsStrange, RefusesOutOfTurn, RefusesNotReady, RefusesSecondStart, RefusesUnplanned, OpeningStands, StandsStep};
+ghost use Rattle.name_machine.specs.Laws.{AccountsChange, LeavesCallers, LeavesWorkers, FactsHold, StopsAreLast, StopsEnd, FinishedOnce, RefusesStrange, DeadIsStrange, OthersAreStrange, UncollectedIsStrange, RefusesOutOfTurn, RefusesNotReady, RefusesSecondStart, RefusesUnplanned, OpeningStands, EmptyBothWays, StandsStep};
 
 use task_types::Library;
 
@@ -58,9 +58,11 @@ pub fn forgetting_replays<C, K>()
     ensures { (arity : C → ℕ) (plans : Plans K) → ForgettingReplays arity plans }
 {}
 
-/// What a control state with contents stands for: the opening state stands for the opening state, and a register, a
-/// copy, an ask, a stop, a start and a give-back are the machine's steps between the states that are stood for.
+/// What a control state with contents stands for: the opening state stands for the opening state; it has nothing in
+/// it exactly where what it stands for has nothing; and a register, a copy, an ask, a stop, a start and a give-back are
+/// the machine's steps between the states that are stood for.
 pub fn standing<L: Library>()
     ensures opening { OpeningStands L.meanings }
+    ensures empty { EmptyBothWays L.meanings L.Chunk.arity }
     ensures steps { (plans : Plans L.Kind) → StandsStep L.meanings L.Chunk.arity plans }
 {}
