@@ -15,7 +15,7 @@ use Rattle.chunk_refs.specs.declared.parts.StoredId.{StoredId}
 use Rattle.chunk_refs.specs.declared.parts.Chunk.{Chunk}
 use Rattle.chunk_refs.specs.declared.parts.Parts.{Parts}
 use Rattle.name_states.specs.States.{NameState, IdRecord, BodyRecord, id_at, body_at, record_of, owned_by, IsLive, holder_of, body_named, body_record_of, content_of, no_names, live_ids, live_bodies, body_of, children_of, children_in}
-use Rattle.chunk_refs.specs.Trees.{tree_named, led_to, grown, tree_within, body_tree, tree_of}
+use Rattle.name_states.specs.Trees.{tree_named, led_to, grown, tree_within, body_tree, tree_of}
 use Rattle.name_states.specs.Steps.{copied, registered, without_id, IsOutside, numbered}
 use Rattle.name_states.specs.Reached.{is_reached, is_kept, swept, IsReached}
 use Rattle.name_states.specs.Rules.{IsSound, AreWithin, AreReached}
@@ -31,7 +31,7 @@ use Rattle.name_states.proofs.Reaching.{outside-passes, reached-from-test, reach
 use Rattle.name_states.proofs.Sound.{sound-copied, sound-without, more-registered, nothing-left, new-body, new-naming}
 use Rattle.name_states.proofs.Swept.{cond-some, body_at-swept, naming_at-swept}
 use Rattle.name_states.proofs.Within.{AreMore, live-number, naming-number, number-naming, copied-keeps}
-use Rattle.chunk_refs.proofs.Trees.{same-within, same-children, body-tree-kept}
+use Rattle.name_states.proofs.Trees.{same-within, same-children, body-tree-kept}
 
 for-some : {X : Type 0} (P : X → Type 0) (found : Option X) (x : X) → found ≡ Some x → ForSome found P → P x
 for-some P found x is holds = holds x is

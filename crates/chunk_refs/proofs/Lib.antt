@@ -14,4 +14,3 @@ pub mod Registering
 pub mod Reserving
 pub mod Stores
 pub mod Sweeping
-pub mod Trees

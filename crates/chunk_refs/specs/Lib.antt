@@ -3,4 +3,3 @@ pub mod Deleting
 pub mod Inside
 pub mod Others
 pub mod Room
-pub mod Trees

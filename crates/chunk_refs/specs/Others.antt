@@ -8,7 +8,7 @@ use Rattle.name_states.specs.declared.holder.Holder.{Holder}
 use Rattle.name_states.specs.declared.holder.Holder.TheVariants.{Body}
 use Rattle.name_states.specs.States.{NameState, IdRecord, record_of, IsLive, holder_of, body_of, content_of, children_of}
 use Rattle.name_states.specs.Steps.{IsOutside}
-use Rattle.chunk_refs.specs.Trees.{tree_of}
+use Rattle.name_states.specs.Trees.{tree_of}
 
 module _ {C : Type 0} where
   -- An identifier has the holder that it had, names the body that it named, with the same content and children, and leads

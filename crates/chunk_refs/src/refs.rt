@@ -4,7 +4,7 @@ ghost use Rattle.cht_ids.specs.declared.refs.Ref.TheVariants.{Id as Held};
 ghost use Rattle.task_types.specs.Tree.{rooted, child};
 ghost use Rattle.name_states.specs.States.{IdRecord, id_at, body_at, IsLive, IsLiveRef, AreLive, holder_of, body_of, content_of, children_of, no_names, live_ids, live_bodies};
 ghost use Rattle.chunk_refs.specs.Room.{workers_of, spare_of, IsAtLeast, IsLeft};
-ghost use Rattle.chunk_refs.specs.Trees.{tree_of};
+ghost use Rattle.name_states.specs.Trees.{tree_of};
 ghost use Rattle.name_states.specs.Steps.{IsOutside, present, numbered, registered, copied, without_id};
 ghost use Rattle.name_states.specs.Reached.{IsReached, swept};
 ghost use Rattle.name_states.specs.Rules.{IsSound, AreReached, AreWithin};

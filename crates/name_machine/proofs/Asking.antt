@@ -25,16 +25,16 @@ known_read goals [] = refl
 known_read goals (tree ∷ trees) = ap (λ rest. tree ∷ rest) (known_read goals trees)
 
 module _ {C K : Type 0} (lib : Meanings C K) (drawn : ℕ) (graph : Graph (Tree C) K) (asks : map.FinMap nat_cmp (Ask (Tree C) (Tree C))) (keeps : Keeps lib drawn graph asks) (caller : ℕ) (kind : K) (trees : List (Tree C)) (number : ℕ) (defined : lib.defined kind trees) (above : drawn + 1 < number) where
-  abbrev new : Unfinished (Tree C) K
+  abbrev pub new : Unfinished (Tree C) K
   new = record { caller = caller; kind = kind; inputs = each Known trees; runner = None; asked = Some number }
 
-  abbrev new_ask : Ask (Tree C) (Tree C)
+  abbrev pub new_ask : Ask (Tree C) (Tree C)
   new_ask = record { caller = caller; number = number; goal = lib.goal kind trees; delivered = None }
 
-  abbrev after : Graph (Tree C) K
+  abbrev pub after : Graph (Tree C) K
   after = with_asked (added graph (drawn + 1) caller kind (each Known trees)) (drawn + 1) number
 
-  abbrev later : map.FinMap nat_cmp (Ask (Tree C) (Tree C))
+  abbrev pub later : map.FinMap nat_cmp (Ask (Tree C) (Tree C))
   later = map.insert asks (drawn + 1) new_ask
 
   abbrev bare : Unfinished (Tree C) K
@@ -46,13 +46,13 @@ module _ {C K : Type 0} (lib : Meanings C K) (drawn : ℕ) (graph : Graph (Tree 
   abbrev between : Graph (Tree C) K
   between = added graph (drawn + 1) caller kind (each Known trees)
 
-  task_new : task_at after (drawn + 1) ≡ Some new
+  pub task_new : task_at after (drawn + 1) ≡ Some new
   task_new = changed_here between (drawn + 1) ask_it ∙ ap (option_map ask_it) (inserted_here graph.tasks (drawn + 1) (drawn + 1) bare bare refl refl)
 
   task_old : (q : ℕ) → (q ≡ drawn + 1 → ⊥) → task_at after q ≡ task_at graph q
   task_old q apart = changed_other between (drawn + 1) q ask_it apart ∙ inserted_other graph.tasks (drawn + 1) q bare apart
 
-  task_from : (q : ℕ) (t : Unfinished (Tree C) K) → task_at after q ≡ Some t → ((q ≡ drawn + 1) × (t ≡ new)) ⊎ ((q ≡ drawn + 1 → ⊥) × (task_at graph q ≡ Some t))
+  pub task_from : (q : ℕ) (t : Unfinished (Tree C) K) → task_at after q ≡ Some t → ((q ≡ drawn + 1) × (t ≡ new)) ⊎ ((q ≡ drawn + 1 → ⊥) × (task_at graph q ≡ Some t))
   task_from q t is =
       elim (same_or_not q (drawn + 1)) [
         | inl same ↦ inl (same, same_some t new (sym is ∙ ap (task_at after) same ∙ task_new))
@@ -62,7 +62,7 @@ module _ {C K : Type 0} (lib : Meanings C K) (drawn : ℕ) (graph : Graph (Tree 
   ask_old : (k : ℕ) (a : Ask (Tree C) (Tree C)) → map.get asks k ≡ Some a → map.get later k ≡ Some a
   ask_old k a is = let h = (keeps.ask_drawn k a is).0 in inserted_other asks (drawn + 1) k new_ask (λ same. omega arith) ∙ is
 
-  still : (q : ℕ) (t : Unfinished (Tree C) K) → task_at graph q ≡ Some t → task_at after q ≡ Some t
+  pub still : (q : ℕ) (t : Unfinished (Tree C) K) → task_at graph q ≡ Some t → task_at after q ≡ Some t
   still q t is = let h = keeps.numbers q t is in task_old q (λ same. omega arith) ∙ is
 
   abbrev goals : ℕ → Tree C

@@ -20,17 +20,17 @@ use Rattle.task_types.specs.Reading.{reading, Call, goals_of, call_of, new_trees
 use Rattle.task_types.specs.Sound.{IsSound}
 use Rattle.task_types.proofs.FormedTest.{both_left, both_right}
 use Rattle.task_types.proofs.Reading.{tree_at-some, slice_get-new_calls}
-use Rattle.task_states.specs.States.{Input, Known, Awaits, Unfinished, Graph, task_at, asked_of, is_stopped}
+use Rattle.task_states.specs.States.{Input, Awaits, Unfinished, Graph, task_at, asked_of, is_stopped}
 use Rattle.name_states.proofs.Basics.{none_not_some, same_some, same_or_not, one_of, same_from_test, test_same, test_apart}
 use Rattle.name_machine.specs.States.{Ask}
 use Rattle.task_states.specs.Steps.{added, inputs_redirected, asked_moved}
 use Rattle.name_machine.specs.NewTasks.{taken, drawn_by_chunks, drawn_by_tasks, task_numbers, number_at, new_inputs, with_tasks}
 use Rattle.name_machine.specs.Steps.{tree_known}
 use Rattle.name_machine.specs.Goals.{read_input}
-use Rattle.name_machine.specs.Facts.{EndsAtAsk, Asked, Awaited}
+use Rattle.name_machine.specs.Facts.{AwaitsTask, EndsAtAsk, Asked, Awaited}
 use Rattle.name_machine.proofs.Tasks.{mapped_from}
 use Rattle.name_machine.proofs.Ends.{inputs_at, ends_there}
-use Rattle.name_machine.proofs.Invariant.{Keeps, IsAskFor, IsServedBy}
+use Rattle.name_machine.proofs.Invariant.{known_trees, Keeps, IsAskFor, IsServedBy}
 use Rattle.name_machine.proofs.Added.{number_drawn, numbers_rise, tree_for, tree_for-number, awaits_named, named_awaits, new_inputs_read, new_of, IsNew, old_stays, new_from, new_at}
 use Rattle.name_machine.proofs.Stands.{Stand, ByValue, ByTask, replaced, asked_then, input_then, input_stays, input_moves, inputs_stay, Stands, replaced_read, become, stood, stood_gone, stood_at}
 use Rattle.name_machine.proofs.Answered.{answer, asks_then, asks_from, asks_to, answer_caller, answer_number, answer_goal, answer_other, answer_here}
@@ -70,7 +70,7 @@ each_at P [] i x all is = absurd (none_not_some refl is)
 each_at P (y ∷ xs) zero x all is = subst P (same_some y x is) all.0
 each_at P (y ∷ xs) (suc i) x all is = each_at P xs i x all.1 is
 
-one_there : {X : Type 0} (xs : List X) (i : ℕ) → i < length xs → (x : X) × (slice_get xs i ≡ Some x)
+pub one_there : {X : Type 0} (xs : List X) (i : ℕ) → i < length xs → (x : X) × (slice_get xs i ≡ Some x)
 one_there [] i h = absurd (omega arith)
 one_there (x ∷ xs) zero h = (x, refl)
 one_there (x ∷ xs) (suc i) h = one_there xs i (omega arith)
@@ -81,13 +81,6 @@ same_task i (AtInput k) is = absurd (let clash : false ≡ true = is in cc)
 same_task i (Child k l) is = absurd (let clash : false ≡ true = is in cc)
 same_task i (Chunk k) is = absurd (let clash : false ≡ true = is in cc)
 same_task i (Task k) is = ap Task (sym (same_from_test i k is))
-
--- inputs that await nothing read as they are
-known_trees : {C : Type 0} (goals : ℕ → Tree C) (inputs : List (Input (Tree C))) → ((p a n : ℕ) → slice_get inputs p ≡ Some (Awaits a n) → ⊥)
-    → each (read_input goals) inputs ≡ each tree_known inputs
-known_trees goals [] none = refl
-known_trees goals (Known tree ∷ inputs) none = ap (λ rest. tree ∷ rest) (known_trees goals inputs (λ p a n is. none (suc p) a n is))
-known_trees goals (Awaits a n ∷ inputs) none = absurd (none 0 a n refl)
 
 -- what stands in a finished task's place
 abbrev pub stand_of : {C : Type 0} → List ℕ → (Place → Tree C) → Place → Stand (Tree C)
@@ -106,43 +99,43 @@ stopped_with value numbers caller drawn (task ∷ tasks) graph c = stopped_with 
 module _ {C K : Type 0} (lib : Meanings C K) (arity : C → ℕ) (drawn : ℕ) (graph : Graph (Tree C) K) (asks : map.FinMap nat_cmp (Ask (Tree C) (Tree C))) (keeps : Keeps lib drawn graph asks)
     (gone : ℕ) (ran : Unfinished (Tree C) K) (there : task_at graph gone ≡ Some ran) (worker : ℕ) (runs : ran.runner ≡ Some worker)
     (outcome : Outcome C K) (sound : IsSound arity lib ran.kind (each tree_known ran.inputs) outcome) where
-  abbrev trees : List (Tree C)
+  abbrev pub trees : List (Tree C)
   trees = each tree_known ran.inputs
 
-  abbrev chunk_trees : List (Tree C)
+  abbrev pub chunk_trees : List (Tree C)
   chunk_trees = new_trees trees outcome
 
-  abbrev read : Place → Tree C
+  abbrev pub read : Place → Tree C
   read = reading trees chunk_trees []
 
-  abbrev base : ℕ
+  abbrev pub base : ℕ
   base = drawn + drawn_by_chunks (each (λ (chunk : NewChunk C). chunk.children) outcome.chunks)
 
-  abbrev more : ℕ
+  abbrev pub more : ℕ
   more = drawn_by_tasks outcome.tasks
 
-  abbrev numbers : List ℕ
+  abbrev pub numbers : List ℕ
   numbers = task_numbers base outcome.tasks
 
-  abbrev task_goals : List (Tree C)
+  abbrev pub task_goals : List (Tree C)
   task_goals = goals_of lib.goal (new_calls lib.goal trees outcome)
 
-  abbrev value : Place → ℕ → Tree C
+  abbrev pub value : Place → ℕ → Tree C
   value place number = read place
 
-  abbrev grown : Graph (Tree C) K
+  abbrev pub grown : Graph (Tree C) K
   grown = with_tasks value numbers ran.caller base outcome.tasks graph
 
-  abbrev stand : Stand (Tree C)
+  abbrev pub stand : Stand (Tree C)
   stand = stand_of numbers read outcome.result
 
-  abbrev final : Graph (Tree C) K
+  abbrev pub final : Graph (Tree C) K
   final = stood grown gone stand
 
-  abbrev later : map.FinMap nat_cmp (Ask (Tree C) (Tree C))
+  abbrev pub later : map.FinMap nat_cmp (Ask (Tree C) (Tree C))
   later = asks_then stand ran.asked asks
 
-  abbrev goals : ℕ → Tree C
+  abbrev pub goals : ℕ → Tree C
   goals q = cond (nat_le q base) (keeps.goals q) (tree_for numbers task_goals q)
 
   abbrev top : ℕ
@@ -164,7 +157,7 @@ module _ {C K : Type 0} (lib : Meanings C K) (arity : C → ℕ) (drawn : ℕ) (
 
   -- ---- Goals and levels
 
-  goals_old : (q : ℕ) → q ≤ base → goals q ≡ keeps.goals q
+  pub goals_old : (q : ℕ) → q ≤ base → goals q ≡ keeps.goals q
   goals_old q h = ap (λ b. cond b (keeps.goals q) (tree_for numbers task_goals q)) (le_passes q base h)
 
   goals_number : (i : ℕ) → i < length outcome.tasks → goals (number_at numbers i) ≡ tree_at task_goals i
@@ -237,10 +230,10 @@ module _ {C K : Type 0} (lib : Meanings C K) (arity : C → ℕ) (drawn : ℕ) (
 
   -- ---- What is there afterwards
 
-  low_base : (q : ℕ) (t : Unfinished (Tree C) K) → task_at graph q ≡ Some t → q ≤ base
+  pub low_base : (q : ℕ) (t : Unfinished (Tree C) K) → task_at graph q ≡ Some t → q ≤ base
   low_base q t is = let h = keeps.numbers q t is in omega arith
 
-  grown_old : (q : ℕ) (t : Unfinished (Tree C) K) → task_at graph q ≡ Some t → task_at grown q ≡ Some t
+  pub grown_old : (q : ℕ) (t : Unfinished (Tree C) K) → task_at graph q ≡ Some t → task_at grown q ≡ Some t
   grown_old q t is = old_stays value numbers ran.caller base outcome.tasks graph q (low_base q t is) ∙ is
 
   asked_is : asked_of grown gone ≡ ran.asked
@@ -252,7 +245,7 @@ module _ {C K : Type 0} (lib : Meanings C K) (arity : C → ℕ) (drawn : ℕ) (
       ∙ ap (λ asked. option_map (become gone stand asked q) (task_at grown q)) asked_is
       ∙ ap (option_map (become gone stand ran.asked q)) is
 
-  record Old (q : ℕ) (t : Unfinished (Tree C) K) : Type 0 where
+  pub record Old (q : ℕ) (t : Unfinished (Tree C) K) : Type 0 where
     pub before : Unfinished (Tree C) K
     pub was : task_at graph q ≡ Some before
     pub apart : q ≡ gone → ⊥
@@ -262,7 +255,7 @@ module _ {C K : Type 0} (lib : Meanings C K) (arity : C → ℕ) (drawn : ℕ) (
     pub asked : t.asked ≡ before.asked
     pub run_by : t.runner ≡ before.runner
 
-  record New (q : ℕ) (t : Unfinished (Tree C) K) : Type 0 where
+  pub record New (q : ℕ) (t : Unfinished (Tree C) K) : Type 0 where
     pub index : ℕ
     pub task : NewTask K
     pub start : ℕ
@@ -297,11 +290,11 @@ module _ {C K : Type 0} (lib : Meanings C K) (arity : C → ℕ) (drawn : ℕ) (
       let first = gone_low in
       omega arith)
 
-  number_high : (i : ℕ) (task : NewTask K) → slice_get outcome.tasks i ≡ Some task → (base < number_at numbers i) × (number_at numbers i ≤ base + more)
+  pub number_high : (i : ℕ) (task : NewTask K) → slice_get outcome.tasks i ≡ Some task → (base < number_at numbers i) × (number_at numbers i ≤ base + more)
   number_high i task at = number_drawn base i outcome.tasks (slice_get_within outcome.tasks i task at)
 
   -- a new task is there
-  new_final : (i : ℕ) (task : NewTask K) → slice_get outcome.tasks i ≡ Some task
+  pub new_final : (i : ℕ) (task : NewTask K) → slice_get outcome.tasks i ≡ Some task
       → (t : Unfinished (Tree C) K) × (task_at final (number_at numbers i) ≡ Some t) × New (number_at numbers i) t
   new_final i task at =
       let one = new_at value numbers ran.caller base i outcome.tasks graph task at in
@@ -325,7 +318,7 @@ module _ {C K : Type 0} (lib : Meanings C K) (arity : C → ℕ) (drawn : ℕ) (
       )
 
   -- an old task is there
-  old_final : (q : ℕ) (t : Unfinished (Tree C) K) → task_at graph q ≡ Some t → (q ≡ gone → ⊥)
+  pub old_final : (q : ℕ) (t : Unfinished (Tree C) K) → task_at graph q ≡ Some t → (q ≡ gone → ⊥)
       → (u : Unfinished (Tree C) K) × (task_at final q ≡ Some u) × (u.caller ≡ t.caller) × (u.asked ≡ t.asked) × (u.inputs ≡ each (replaced gone stand) t.inputs)
   old_final q t is apart =
       (become gone stand ran.asked q t, final_at q t apart (grown_old q t is), refl, asked_stays q t.asked (low_base q t is), refl)
@@ -356,7 +349,7 @@ module _ {C K : Type 0} (lib : Meanings C K) (arity : C → ℕ) (drawn : ℕ) (
   })
 
   -- what is there afterwards was there or is new
-  from_final : (q : ℕ) (t : Unfinished (Tree C) K) → task_at final q ≡ Some t → Old q t ⊎ New q t
+  pub from_final : (q : ℕ) (t : Unfinished (Tree C) K) → task_at final q ≡ Some t → Old q t ⊎ New q t
   from_final q t is =
       let apart : q ≡ gone → ⊥ = λ same. none_not_some (ap (task_at final) same ∙ stood_gone grown gone stand) is in
       let was = mapped_from (become gone stand ran.asked q) (task_at grown q) t (sym (stood_at grown gone q stand apart ∙ ap (λ asked. option_map (become gone stand asked q) (task_at grown q)) asked_is) ∙ is) in
@@ -464,21 +457,21 @@ module _ {C K : Type 0} (lib : Meanings C K) (arity : C → ℕ) (drawn : ℕ) (
       ]
 
   -- inputs of old tasks read as before
-  old_reads : (q : ℕ) (t : Unfinished (Tree C) K) (old : Old q t) → each (read_input goals) t.inputs ≡ each (read_input keeps.goals) old.before.inputs
+  pub old_reads : (q : ℕ) (t : Unfinished (Tree C) K) (old : Old q t) → each (read_input goals) t.inputs ≡ each (read_input keeps.goals) old.before.inputs
   old_reads q t old =
       ap (each (read_input goals)) old.inputs
       ∙ replaced_read gone keeps.goals goals stand old.before.inputs stands (λ p a n at apart.
       let other = keeps.there q p a n old.before old.was at in goals_old a (low_base a other.0 other.1))
 
   -- inputs of new tasks read as their places do
-  new_reads : (q : ℕ) (t : Unfinished (Tree C) K) (new : New q t) → each (read_input goals) t.inputs ≡ each (reading trees chunk_trees task_goals) (places_of new.task.inputs)
+  pub new_reads : (q : ℕ) (t : Unfinished (Tree C) K) (new : New q t) → each (read_input goals) t.inputs ≡ each (reading trees chunk_trees task_goals) (places_of new.task.inputs)
   new_reads q t new =
       ap (each (read_input goals)) new.inputs
       ∙ new_inputs_read (each presence_of trees) (length outcome.chunks) new.index trees chunk_trees task_goals numbers goals
       (λ j h. let within = slice_get_within outcome.tasks new.index new.task new.at in goals_number j (omega arith))
       new.start (places_of new.task.inputs) (formed new.index new.task new.at).each
 
-  call_at : (i : ℕ) (task : NewTask K) → slice_get outcome.tasks i ≡ Some task
+  pub call_at : (i : ℕ) (task : NewTask K) → slice_get outcome.tasks i ≡ Some task
       → slice_get (new_calls lib.goal trees outcome) i ≡ Some (call_of lib.goal trees chunk_trees (new_calls lib.goal trees outcome) (task_shape task))
   call_at i task at = slice_get-new_calls lib.goal (each presence_of trees) trees outcome i task sound.formed.tasks_formed at
 
@@ -728,6 +721,32 @@ module _ {C K : Type 0} (lib : Meanings C K) (arity : C → ℕ) (drawn : ℕ) (
       (awaits.0, awaits.1, inputs_at final by awaits.0 v.0 v.1 ∙ ap (λ inputs. slice_get inputs awaits.0) v.4 ∙ moved_input to awaits.0 awaits.1 b.0.inputs stand is (input ∙ moved))
       (old_ends ran.caller by rest other)
 
+  -- numbers differ
+  pub index_is : (a b : ℕ) (s t : NewTask K) → slice_get outcome.tasks a ≡ Some s → slice_get outcome.tasks b ≡ Some t → number_at numbers a ≡ number_at numbers b → a ≡ b
+  index_is a b s t one two same =
+      let ha = slice_get_within outcome.tasks a s one in
+      let hb = slice_get_within outcome.tasks b t two in
+      elim (le_or_lt a b) [
+        | inl low ↦ elim (same_or_not a b) [
+          | inl e ↦ e
+          | inr apart ↦ absurd (let rises = numbers_rise base a b outcome.tasks (grind arith) hb in omega arith)
+        ]
+        | inr high ↦ absurd (let rises = numbers_rise base b a outcome.tasks high ha in omega arith)
+      ]
+
+  -- a new task awaits what its places name
+  named_by : (i j p : ℕ) (task : NewTask K) → slice_get outcome.tasks j ≡ Some task → slice_get (places_of task.inputs) p ≡ Some (Task i)
+      → AwaitsTask final (number_at numbers j) (number_at numbers i)
+  named_by i j p task at named =
+      let v = new_final j task at in
+      let index : v.2.index ≡ j = index_is v.2.index j v.2.task task v.2.at at v.2.number in
+      let seen : slice_get outcome.tasks j ≡ Some v.2.task = ap (slice_get outcome.tasks) (sym index) ∙ v.2.at in
+      let same : v.2.task ≡ task = same_some v.2.task task (sym seen ∙ at) in
+      let there_named : slice_get (places_of v.2.task.inputs) p ≡ Some (Task i) = ap (λ t. slice_get (places_of t.inputs) p) same ∙ named in
+      let input = named_awaits value numbers v.2.start p i (places_of v.2.task.inputs) there_named in
+      let inputs : slice_get v.0.inputs p ≡ slice_get (new_inputs value numbers v.2.start (places_of v.2.task.inputs)) p = ap (λ all. slice_get all p) v.2.inputs in
+      (p, input.0, inputs_at final (number_at numbers j) p v.0 v.1 ∙ inputs ∙ input.1)
+
   -- a new task is an input of a later one, or the result
   new_ends : (fuel i : ℕ) → length outcome.tasks ≤ i + fuel → i < length outcome.tasks → EndsAtAsk final later ran.caller (number_at numbers i)
   new_ends zero i short h = absurd (omega arith)
@@ -738,29 +757,14 @@ module _ {C K : Type 0} (lib : Meanings C K) (arity : C → ℕ) (drawn : ℕ) (
             let j : ℕ = (i + 1) + some.0 in
             let at = drop_get (i + 1) some.0 j outcome.tasks some.1 refl some.2 in
             let place = any_index (same_place (Task i)) (places_of some.1.inputs) some.3 in
-            let named = place.2 ∙ ap Some (same_task i place.1 place.3) in
             let one = one_there outcome.tasks i h in
             let u = new_final i one.0 one.1 in
-            let v = new_final j some.1 at in
-            let input = named_awaits value numbers v.2.start place.0 i (places_of v.2.task.inputs) (ap (λ t. slice_get (places_of t.inputs) place.0) (same_some v.2.task some.1 (sym v.2.at ∙ ap (slice_get outcome.tasks) (index_is v.2.index j v.2.task some.1 v.2.at at v.2.number) ∙ at)) ∙ named) in
             let within = slice_get_within outcome.tasks j some.1 at in
             Awaited (number_at numbers i) (number_at numbers j) u.0 u.1 u.2.caller
-            (place.0, input.0, inputs_at final (number_at numbers j) place.0 v.0 v.1 ∙ ap (λ inputs. slice_get inputs place.0) v.2.inputs ∙ input.1)
+            (named_by i j place.0 some.1 at (place.2 ∙ ap Some (same_task i place.1 place.3)))
             (new_ends fuel j (omega arith) within)
         | inr last ↦ moved_ends gone (number_at numbers i) (keeps.awaited gone ran there) refl (ap (stand_of numbers read) (same_task i outcome.result last))
       ]
-    where
-      index_is : (a b : ℕ) (s t : NewTask K) → slice_get outcome.tasks a ≡ Some s → slice_get outcome.tasks b ≡ Some t → number_at numbers a ≡ number_at numbers b → a ≡ b
-      index_is a b s t one two same =
-          let ha = slice_get_within outcome.tasks a s one in
-          let hb = slice_get_within outcome.tasks b t two in
-          elim (le_or_lt a b) [
-            | inl low ↦ elim (same_or_not a b) [
-              | inl e ↦ e
-              | inr apart ↦ absurd (let rises = numbers_rise base a b outcome.tasks (grind arith) hb in omega arith)
-            ]
-            | inr high ↦ absurd (let rises = numbers_rise base b a outcome.tasks high ha in omega arith)
-          ]
 
   awaited_after : (q : ℕ) (t : Unfinished (Tree C) K) → task_at final q ≡ Some t → EndsAtAsk final later t.caller q
   awaited_after q t is =
@@ -800,3 +804,12 @@ module _ {C K : Type 0} (lib : Meanings C K) (arity : C → ℕ) (drawn : ℕ) (
     awaited = awaited_after;
     stopped = λ c is. stopped_after c (sym (stopped_same stand c ∙ stopped_with value numbers ran.caller base outcome.tasks graph c) ∙ is);
   }
+
+  -- the goals that are kept
+  pub goals_after : (q : ℕ) → kept_by_finish.goals q ≡ goals q
+  unfolding kept_by_finish
+  goals_after q = refl
+
+  -- and nobody is stopped by it
+  pub stopped_final : (c : ℕ) → is_stopped final c ≡ is_stopped graph c
+  stopped_final c = stopped_same stand c ∙ stopped_with value numbers ran.caller base outcome.tasks graph c

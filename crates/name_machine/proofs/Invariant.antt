@@ -6,8 +6,9 @@ use Rattle.task_types.specs.Meanings.{Meanings}
 use Rattle.task_states.specs.States.{Input, Known, Awaits, Unfinished, Graph, task_at, input_at, is_stopped}
 use Rattle.name_states.proofs.Basics.{none_not_some, same_some}
 use Rattle.name_machine.specs.States.{Machine, Ask, is_of}
+use Rattle.name_machine.specs.Steps.{tree_known}
 use Rattle.name_machine.specs.Goals.{read_input, goal_from, goal_within}
-use Rattle.name_machine.specs.Facts.{EndsAtAsk, HoldsTogether}
+use Rattle.name_machine.specs.Facts.{Asked, Awaited, EndsAtAsk, HoldsTogether}
 use Rattle.name_machine.proofs.Values.{any_from}
 use Rattle.name_states.proofs.Basics.{test_same}
 
@@ -42,6 +43,19 @@ module _ {C : Type 0} where
   same_readings f g [] same = refl
   same_readings f g (Known tree ∷ inputs) same = ap (λ rest. tree ∷ rest) (same_readings f g inputs (λ p a n is. same (suc p) a n is))
   same_readings f g (Awaits a n ∷ inputs) same = let here = same 0 a n refl in let rest = same_readings f g inputs (λ p a n is. same (suc p) a n is) in cc
+
+-- inputs that await nothing read as they are
+pub known_trees : {C : Type 0} (goals : ℕ → Tree C) (inputs : List (Input (Tree C))) → ((p a n : ℕ) → slice_get inputs p ≡ Some (Awaits a n) → ⊥)
+    → each (read_input goals) inputs ≡ each tree_known inputs
+known_trees goals [] none = refl
+known_trees goals (Known tree ∷ inputs) none = ap (λ rest. tree ∷ rest) (known_trees goals inputs (λ p a n is. none (suc p) a n is))
+known_trees goals (Awaits a n ∷ inputs) none = absurd (none 0 a n refl)
+
+-- a way that ends at an ask that was not delivered is none where all were
+pub never_ends : {C K : Type 0} (graph : Graph (Tree C) K) (asks : map.FinMap nat_cmp (Ask (Tree C) (Tree C))) (c q : ℕ)
+    → ((key : ℕ) (ask : Ask (Tree C) (Tree C)) → map.get asks key ≡ Some ask → ask.caller ≡ c → ask.delivered ≡ None → ⊥) → EndsAtAsk graph asks c q → ⊥
+never_ends graph asks c q delivered (Asked task number key t ask at own asked found theirs same none) = delivered key ask found theirs none
+never_ends graph asks c q delivered (Awaited task by t at own awaits rest) = never_ends graph asks c by delivered rest
 
 module _ {C K : Type 0} (lib : Meanings C K) where
   -- what is kept, of the numbers that were drawn, the unfinished tasks and the asks
@@ -101,10 +115,10 @@ module _ {C K : Type 0} (lib : Meanings C K) where
         goals_within depth a other.0 other.1 (omega arith)))
         ∙ sym (keeps.goal_is q t is)
 
-    own_goal : (q : ℕ) (t : Unfinished (Tree C) K) → task_at graph q ≡ Some t → goal_within lib drawn graph q ≡ keeps.goals q
+    pub own_goal : (q : ℕ) (t : Unfinished (Tree C) K) → task_at graph q ≡ Some t → goal_within lib drawn graph q ≡ keeps.goals q
     own_goal q t is = goals_within drawn q t is (keeps.low q t is)
 
-    own_readings : (q : ℕ) (t : Unfinished (Tree C) K) → task_at graph q ≡ Some t
+    pub own_readings : (q : ℕ) (t : Unfinished (Tree C) K) → task_at graph q ≡ Some t
         → each (read_input (goal_within lib drawn graph)) t.inputs ≡ each (read_input keeps.goals) t.inputs
     own_readings q t is =
         same_readings (goal_within lib drawn graph) keeps.goals t.inputs (λ p a n at.
@@ -129,11 +143,15 @@ module _ {C K : Type 0} (lib : Meanings C K) where
         let same : u.0 ≡ t = same_some u.0 t (sym u.1 ∙ is) in
         (other.0, other.1, other.2 ∙ ap (λ v. v.caller) same);
     awaited = keeps.awaited;
+    asked = record { asks = keeps.ask_for; differ = keeps.asked_one };
     runs = λ worker q a runs awaits.
         let u = input_of machine.graph q awaits.0 (Awaits a awaits.1) awaits.2 in
         let same : runs.0 ≡ u.0 = same_some runs.0 u.0 (sym runs.1 ∙ u.1) in
         keeps.runs_known q awaits.0 a awaits.1 worker u.0 u.1 (ap (λ v. v.runner) (sym same) ∙ runs.2) u.2;
     one = λ worker q r one other. keeps.runs_one q r worker one.0 other.0 one.1 other.1 one.2 other.2;
+    run_defined = λ worker q t is runs.
+        subst (lib.defined t.kind) (known_trees keeps.goals t.inputs (λ p a n at. keeps.runs_known q p a n worker t is runs at)) (keeps.defined q t is);
+    no_tasks = λ c delivered q t is own. never_ends machine.graph machine.asks c q delivered (subst (λ k. EndsAtAsk machine.graph machine.asks k q) own (keeps.awaited q t is));
     numbered = record { tasks = keeps.numbers; asks = keeps.ask_drawn; differ = keeps.ask_one };
     stopped = λ c is. let ask = keeps.stopped c is in any_from (is_of c) machine.asks ask.0 ask.1 ask.2 (ap (λ n. nat_eq n c) ask.3 ∙ test_same c);
   }

@@ -17,13 +17,13 @@ use Rattle.task_states.proofs.Maps.{get-kept}
 use Rattle.cht_history.specs.declared.event.Event.{Event}
 use Rattle.cht_history.specs.declared.event.Event.TheVariants.{Register, Copy, Delete, Ask as AskEvent, Collect, Abandon, Stop, Start, GiveBack, Finish}
 use Rattle.name_machine.specs.NewTasks.{task_numbers}
-use Rattle.name_machine.specs.Control.{Control, Grown, no_control, tidied, chunks_more, chunk_more, with_chunks, with_new_tasks, ref_named, with_number, ref_known, resolved_to, finish_event}
-use Rattle.name_machine.specs.Replay.{Plans, Replayed, is_finish, is_allowed, effect, after_finish, happens, replay_from}
+use Rattle.name_machine.specs.Control.{Control, Grown, no_control, tidied, chunks_more, chunk_more, with_chunks, with_new_tasks, ref_named, with_number, ref_known, resolved_to, finish_event, after_finish}
+use Rattle.name_machine.specs.Replay.{Plans, Replayed, is_finish, is_allowed, effect, happens, replay_from}
 use Rattle.name_machine.specs.Laws.{is_finish_of, FinishedOnce}
 use Rattle.name_machine.proofs.Tasks.{passed_from, changed_from, tasks_from, delivered_was, forwarded_was}
 use Rattle.std.specs.Ordering.{nat_cmp}
 use Rattle.std.specs.FinMap as map
-use Rattle.std.proofs.Common.{map as each}
+use Rattle.std.proofs.Common.{map as each, length}
 
 -- new chunks draw numbers
 pub chunks_draw : {B : Type 0} (worker task : ℕ) (inputs : List Ref) (contents : List B) (chunks : List Places) (grown : Grown B)
@@ -83,15 +83,15 @@ module _ {B G K : Type 0} where
       removed_here ended.graph.tasks task task refl
 
 module _ {K : Type 0} where
-  after_grows : (control : Replayed K) (worker task : ℕ) (chunks : List Places) (tasks : List (NewTask K)) (result : Place) (o : Option (Unfinished Ref K))
-      → Grows control (after_finish control worker task chunks tasks result o)
-  after_grows control worker task chunks tasks result None = record { drawn = omega arith; tasks = λ q t is. inl (t, is) }
-  after_grows control worker task chunks tasks result (Some unfinished) = finish_grows control worker task unfinished _ chunks tasks result
+  after_grows : (control : Replayed K) (worker task : ℕ) (contents : List ℕ) (chunks : List Places) (tasks : List (NewTask K)) (result : Place) (o : Option (Unfinished Ref K))
+      → Grows control (after_finish control worker task contents chunks tasks result o)
+  after_grows control worker task contents chunks tasks result None = record { drawn = omega arith; tasks = λ q t is. inl (t, is) }
+  after_grows control worker task contents chunks tasks result (Some unfinished) = finish_grows control worker task unfinished contents chunks tasks result
 
-  after_ends : (control : Replayed K) (worker task : ℕ) (chunks : List Places) (tasks : List (NewTask K)) (result : Place) (o : Option (Unfinished Ref K)) → task_at control.graph task ≡ o
-      → task_at (after_finish control worker task chunks tasks result o).graph task ≡ None
-  after_ends control worker task chunks tasks result None is = is
-  after_ends control worker task chunks tasks result (Some unfinished) is = finish_ends control worker task unfinished _ chunks tasks result
+  after_ends : (control : Replayed K) (worker task : ℕ) (contents : List ℕ) (chunks : List Places) (tasks : List (NewTask K)) (result : Place) (o : Option (Unfinished Ref K)) → task_at control.graph task ≡ o
+      → task_at (after_finish control worker task contents chunks tasks result o).graph task ≡ None
+  after_ends control worker task contents chunks tasks result None is = is
+  after_ends control worker task contents chunks tasks result (Some unfinished) is = finish_ends control worker task unfinished contents chunks tasks result
 
   effect_grows : (control : Replayed K) (event : Event K) → Grows control (effect control event)
   effect_grows control (Register caller id children) = record { drawn = omega arith; tasks = λ q t is. inl (t, is) }
@@ -122,7 +122,8 @@ module _ {K : Type 0} where
     drawn = omega arith;
     tasks = λ q t is. let was = changed_from control.graph task q (λ unfinished. record unfinished { runner = None }) t is in inl (was.0, was.1);
   }
-  effect_grows control (Finish worker task chunks tasks result) = after_grows control worker task chunks tasks result (task_at control.graph task)
+  effect_grows control (Finish worker task chunks tasks result) =
+      after_grows control worker task (each (λ chunk. length (places_of chunk)) chunks) chunks tasks result (task_at control.graph task)
 
   -- numbers of unfinished tasks were drawn
   abbrev AreDrawn : Replayed K → Type 0
@@ -174,7 +175,7 @@ module _ {K : Type 0} where
   finish_over plans control task (GiveBack worker number) drawn is allowed = absurd (cc)
   finish_over plans control task (Finish worker number chunks tasks result) drawn is allowed =
       let same : number ≡ task = same_from_test number task is in (
-        ap (task_at (effect control (Finish worker number chunks tasks result)).graph) (sym same) ∙ after_ends control worker number chunks tasks result (task_at control.graph number) refl,
+        ap (task_at (effect control (Finish worker number chunks tasks result)).graph) (sym same) ∙ after_ends control worker number (each (λ chunk. length (places_of chunk)) chunks) chunks tasks result (task_at control.graph number) refl,
         elim (none_or_some (task_at control.graph number)) [
           | inl none ↦ absurd (let clash : false ≡ true = sym (ap (is_finish plans control worker chunks tasks result) none) ∙ allowed in cc)
           | inr some ↦ subst (λ n. n ≤ control.drawn) same (drawn number some.0 some.1)

@@ -64,7 +64,7 @@ ready_of t is =
       | false ↦ λ e r. e
     ] refl is
 
-status_at : {X K : Type 0} (graph : Graph X K) (q : ℕ) (t : Unfinished X K) → task_at graph q ≡ Some t → status graph q ≡ status_of t
+pub status_at : {X K : Type 0} (graph : Graph X K) (q : ℕ) (t : Unfinished X K) → task_at graph q ≡ Some t → status graph q ≡ status_of t
 status_at {X} {K} graph q t is = ap (λ (o : Option (Unfinished X K)). elim o as (λ x. TaskStatus) [ None ↦ Unknown | Some task ↦ status_of task ]) is
 
 pub ready_awaits_nothing : {X K : Type 0} (graph : Graph X K) (q p a n : ℕ) (t : Unfinished X K) → status graph q ≡ Ready → task_at graph q ≡ Some t
@@ -259,28 +259,28 @@ module _ {C K : Type 0} (lib : Meanings C K) (drawn : ℕ) (graph : Graph (Tree 
   stays_other n c is same = let clash : false ≡ true = sym (ap not (ap (λ m. nat_eq m c) same ∙ test_same c)) ∙ is in cc
 
   module _ (caller : ℕ) where
-    abbrev left : Graph (Tree C) K
+    abbrev pub left : Graph (Tree C) K
     left = abandoned graph caller
 
-    abbrev left_asks : map.FinMap nat_cmp (Ask (Tree C) (Tree C))
+    abbrev pub left_asks : map.FinMap nat_cmp (Ask (Tree C) (Tree C))
     left_asks = kept (λ ask. not (is_of caller ask)) asks
 
-    left_task : (q : ℕ) (t : Unfinished (Tree C) K) → task_at left q ≡ Some t → (task_at graph q ≡ Some t) × (t.caller ≡ caller → ⊥)
+    pub left_task : (q : ℕ) (t : Unfinished (Tree C) K) → task_at left q ≡ Some t → (task_at graph q ≡ Some t) × (t.caller ≡ caller → ⊥)
     left_task q t is =
         let passed = passed_from (λ (u : Unfinished (Tree C) K). not (nat_eq u.caller caller)) (task_at graph q) t (sym (get-kept (λ (u : Unfinished (Tree C) K). not (nat_eq u.caller caller)) graph.tasks q) ∙ is) in
         (passed.0, stays_other t.caller caller passed.1)
 
-    task_left : (q : ℕ) (t : Unfinished (Tree C) K) → task_at graph q ≡ Some t → (t.caller ≡ caller → ⊥) → task_at left q ≡ Some t
+    pub task_left : (q : ℕ) (t : Unfinished (Tree C) K) → task_at graph q ≡ Some t → (t.caller ≡ caller → ⊥) → task_at left q ≡ Some t
     task_left q t is apart =
         get-kept (λ (u : Unfinished (Tree C) K). not (nat_eq u.caller caller)) graph.tasks q
         ∙ passed_to (λ (u : Unfinished (Tree C) K). not (nat_eq u.caller caller)) (task_at graph q) t is (other_stays t.caller caller apart)
 
-    left_ask : (k : ℕ) (a : Ask (Tree C) (Tree C)) → map.get left_asks k ≡ Some a → (map.get asks k ≡ Some a) × (a.caller ≡ caller → ⊥)
+    pub left_ask : (k : ℕ) (a : Ask (Tree C) (Tree C)) → map.get left_asks k ≡ Some a → (map.get asks k ≡ Some a) × (a.caller ≡ caller → ⊥)
     left_ask k a is =
         let passed = passed_from (λ (b : Ask (Tree C) (Tree C)). not (is_of caller b)) (map.get asks k) a (sym (get-kept (λ (b : Ask (Tree C) (Tree C)). not (is_of caller b)) asks k) ∙ is) in
         (passed.0, stays_other a.caller caller passed.1)
 
-    ask_left : (k : ℕ) (a : Ask (Tree C) (Tree C)) → map.get asks k ≡ Some a → (a.caller ≡ caller → ⊥) → map.get left_asks k ≡ Some a
+    pub ask_left : (k : ℕ) (a : Ask (Tree C) (Tree C)) → map.get asks k ≡ Some a → (a.caller ≡ caller → ⊥) → map.get left_asks k ≡ Some a
     ask_left k a is apart =
         get-kept (λ (b : Ask (Tree C) (Tree C)). not (is_of caller b)) asks k
         ∙ passed_to (λ (b : Ask (Tree C) (Tree C)). not (is_of caller b)) (map.get asks k) a is (other_stays a.caller caller apart)

@@ -10,11 +10,11 @@ use Rattle.std.specs.declared.cmp.Ordering.{Ordering}
 use Rattle.std.specs.declared.cmp.Ordering.TheVariants.{Less, Equal, Greater}
 use Rattle.name_states.proofs.Basics.{none_not_some, same_some, same_or_not, test_same, test_apart, one_of}
 
-left_holds : (a b : Bool) → T (a && b) → T a
+pub left_holds : (a b : Bool) → T (a && b) → T a
 left_holds true b p = tt
 left_holds false b p = p
 
-right_holds : (a b : Bool) → T (a && b) → T b
+pub right_holds : (a b : Bool) → T (a && b) → T b
 right_holds true b p = p
 right_holds false b p = absurd p
 
@@ -33,10 +33,10 @@ or_right false b is = is
 
 module _ {X : Type 0} where
   -- the first entry, or one of the others
-  find_first : (q key : ℕ) (x : X) (es : List (ℕ × X)) → find nat_cmp q ((key, x) ∷ es) ≡ cond (nat_eq q key) (Some x) (find nat_cmp q es)
+  pub find_first : (q key : ℕ) (x : X) (es : List (ℕ × X)) → find nat_cmp q ((key, x) ∷ es) ≡ cond (nat_eq q key) (Some x) (find nat_cmp q es)
   find_first q key x es = ap (λ b. cond b (Some x) (find nat_cmp q es)) (unsigned_tied q key)
 
-  below_missed : (key : ℕ) (es : List (ℕ × X)) → T (below_all nat_cmp key es) → find nat_cmp key es ≡ None
+  pub below_missed : (key : ℕ) (es : List (ℕ × X)) → T (below_all nat_cmp key es) → find nat_cmp key es ≡ None
   below_missed key [] below = refl
   below_missed key (e ∷ es) below =
       ap (λ b. cond b (Some e.1) (find nat_cmp key es)) (less_apart (nat_cmp key e.0) (left_holds _ _ below)) ∙ below_missed key es (right_holds _ _ below)

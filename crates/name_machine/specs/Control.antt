@@ -23,6 +23,8 @@ use Rattle.name_states.specs.Reached.{swept}
 use Rattle.task_states.specs.Maps.{each_changed, kept}
 use Rattle.task_states.specs.States.{Input, Known, Awaits, Unfinished, Graph, no_tasks, task_at, asked_of, caller_of}
 use Rattle.task_states.specs.Steps.{added, with_asked, started, given_back, all_delivered, forwarded, removed, with_stopped, abandoned}
+use Rattle.cht_history.specs.declared.event.Event.{Event}
+use Rattle.cht_history.specs.declared.event.Event.TheVariants.{Register, Copy, Delete, Ask as AskEvent, Collect, Abandon, Stop, Start, GiveBack, Finish}
 use Rattle.name_machine.specs.States.{Ask, is_of}
 use Rattle.name_machine.specs.NewTasks.{drawn_by_tasks, task_numbers, number_at, with_tasks, taken}
 
@@ -290,3 +292,30 @@ module _ {B G K : Type 0} where
       let inputs : List Ref = each ref_known unfinished.inputs in
       let grown : Grown B = with_chunks control worker task inputs contents chunks in
       without_task (resolved_to (with_new_tasks control unfinished.caller inputs tasks grown) task (task_numbers grown.drawn tasks) (ref_named grown.names inputs grown.chunks) result) task
+
+  -- what is left of a finish, where there is such a task
+  abbrev pub after_finish : Control B G K → ℕ → ℕ → List B → List Places → List (NewTask K) → Place → Option (Unfinished Ref K) → Control B G K
+  after_finish control worker task contents chunks tasks result None = control
+  after_finish control worker task contents chunks tasks result (Some unfinished) =
+      finish_event control worker task unfinished contents chunks tasks result
+
+  -- a caller registers the first of these contents
+  abbrev pub after_register : Control B G K → ℕ → List B → List Ref → Control B G K
+  after_register control caller [] children = control
+  after_register control caller (content ∷ contents) children = register_event control caller content children
+
+module _ {B K : Type 0} where
+  -- What an event makes of a control state without goals, before what is not reached goes. The contents are those that it registers,
+  -- in order: one where a caller registers, and those of the new chunks where a task is finished.
+  abbrev pub effect_with : Control B (Unit {0}) K → List B → Event K → Control B (Unit {0}) K
+  effect_with control contents (Register caller id children) = after_register control caller contents children
+  effect_with control contents (Copy caller from to) = copy_event control caller from
+  effect_with control contents (Delete caller id) = delete_event control id
+  effect_with control contents (AskEvent caller task kind inputs) = ask_event control caller tt kind inputs
+  effect_with control contents (Collect caller task got) = collect_event control task
+  effect_with control contents (Abandon caller) = abandon_event control caller
+  effect_with control contents (Stop caller) = stop_event control caller
+  effect_with control contents (Start worker task) = start_event control worker task
+  effect_with control contents (GiveBack worker task) = give_back_event control task
+  effect_with control contents (Finish worker task chunks tasks result) =
+      after_finish control worker task contents chunks tasks result (task_at control.graph task)

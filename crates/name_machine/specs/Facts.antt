@@ -6,6 +6,7 @@ use Rattle.task_types.specs.Tree.{Tree}
 use Rattle.task_types.specs.Meanings.{Meanings}
 use Rattle.task_states.specs.States.{Awaits, Unfinished, Graph, task_at, input_at, is_stopped}
 use Rattle.name_machine.specs.States.{Machine, Ask, has_ask, Runs}
+use Rattle.name_machine.specs.Steps.{input_trees}
 use Rattle.name_machine.specs.Goals.{AreDefined, AreServed}
 
 module _ {X K : Type 0} where
@@ -50,6 +51,26 @@ module _ {C K : Type 0} where
   abbrev pub RunsOne : Machine C K → Type 0
   RunsOne machine = (worker task other : ℕ) → Runs machine worker task → Runs machine worker other → task ≡ other
 
+  -- what is asked of a task is an ask of its caller that was not delivered, and no two tasks are asked for under one number
+  pub record AskedBelong (machine : Machine C K) : Type 0 where
+    pub asks : (task number : ℕ) (unfinished : Unfinished (Tree C) K) → task_at machine.graph task ≡ Some unfinished → unfinished.asked ≡ Some number
+        → (key : ℕ) × (ask : Ask (Tree C) (Tree C)) × (map.get machine.asks key ≡ Some ask) × (ask.caller ≡ unfinished.caller)
+        × (ask.number ≡ number) × (ask.delivered ≡ None)
+    pub differ : (task other number : ℕ) (one two : Unfinished (Tree C) K) → task_at machine.graph task ≡ Some one → task_at machine.graph other ≡ Some two
+        → one.asked ≡ Some number → two.asked ≡ Some number → task ≡ other
+
+  -- the goal of a task that a worker runs is defined on the trees of its inputs
+  abbrev pub RunDefined : Meanings C K → Machine C K → Type 0
+  RunDefined lib machine =
+      (worker task : ℕ) (unfinished : Unfinished (Tree C) K) → task_at machine.graph task ≡ Some unfinished
+      → unfinished.runner ≡ Some worker → lib.defined unfinished.kind (input_trees unfinished)
+
+  -- a caller of whose asks each was delivered has no unfinished task
+  abbrev pub DeliveredHaveNoTasks : Machine C K → Type 0
+  DeliveredHaveNoTasks machine =
+      (caller : ℕ) → ((key : ℕ) (ask : Ask (Tree C) (Tree C)) → map.get machine.asks key ≡ Some ask → ask.caller ≡ caller → ask.delivered ≡ None → ⊥)
+      → (number : ℕ) (task : Unfinished (Tree C) K) → task_at machine.graph number ≡ Some task → task.caller ≡ caller → ⊥
+
   -- numbers of unfinished tasks and of asks were drawn, and no two asks have an output's number in common
   pub record AreNumbered (machine : Machine C K) : Type 0 where
     pub tasks : (number : ℕ) (task : Unfinished (Tree C) K) → task_at machine.graph number ≡ Some task → number ≤ machine.drawn
@@ -63,15 +84,19 @@ module _ {C K : Type 0} where
 
 -- The facts of every state that is reached: goals of unfinished tasks are defined; each ask was delivered its goal, or its caller
 -- awaits a task with that goal; each unfinished task is awaited, in no circle, up to an ask of its caller; what it awaits is its
--- caller's; what is run awaits nothing, and a worker runs one task at most; numbers were drawn; a stopped caller has an ask. (A task
--- that is ready awaits nothing by the definition of its status.)
+-- caller's, and what is asked of it belongs to an ask of its caller; what is run awaits nothing, and its goal is defined on the trees of its inputs; a worker runs one task at most; a caller
+-- whose asks were all delivered has no task; numbers were drawn; a stopped caller has an ask. (A task that is ready awaits nothing by
+-- the definition of its status.)
 pub record HoldsTogether {C K : Type 0} (lib : Meanings C K) (machine : Machine C K) : Type 0 where
   pub defined : AreDefined lib machine
   pub served : AreServed lib machine
   pub levels : HasLevels machine.graph machine.drawn
   pub own : AwaitsOwn machine.graph
   pub awaited : AreAwaited machine
+  pub asked : AskedBelong machine
   pub runs : RunAwaitsNothing machine
   pub one : RunsOne machine
+  pub run_defined : RunDefined lib machine
+  pub no_tasks : DeliveredHaveNoTasks machine
   pub numbered : AreNumbered machine
   pub stopped : StoppedHaveAsked machine

@@ -1,5 +1,6 @@
 -- The laws of the machine and of replay, as statements. The functions of `laws` carry each as their contract.
-use Rattle.std.specs.Prelude.{◌≡◌, ℕ, ◌+◌, ◌≤◌, ◌==◌, Bool, true, false, List, slice_get, count_by, None, Some}
+use Rattle.std.specs.Prelude.{◌↔◌, length, [], ◌∷◌, ◌++◌, ◌-◌, map as each, if◌then◌else◌, ◌≡◌, ℕ, ◌+◌, ◌≤◌, ◌==◌, Bool, true, false, List, slice_get, count_by, None, Some}
+use Rattle.std.specs.List.{list_any}
 use Rattle.std.specs.Option.{is_some}
 use Rattle.std.specs.FinMap as map
 use Rattle.cht_ids.specs.declared.refs.Id.{Id}
@@ -11,14 +12,18 @@ use Rattle.task_types.specs.declared.outcome.NewTask.{NewTask}
 use Rattle.name_states.specs.declared.holder.Holder.TheVariants.{Caller as ByCaller}
 use Rattle.name_states.specs.States.{IdRecord, record_of}
 use Rattle.task_states.specs.declared.states.TaskStatus.TheVariants.{Ready}
-use Rattle.task_states.specs.States.{Unfinished, task_at, status}
+use Rattle.task_states.specs.States.{Unfinished, task_at, status, is_stopped}
 use Rattle.task_types.specs.Meanings.{Meanings}
 use Rattle.cht_history.specs.declared.event.Event.{Event}
 use Rattle.cht_history.specs.declared.event.Event.TheVariants.{Register, Copy, Delete, Ask, Collect, Abandon, Stop, Start, GiveBack, Finish}
-use Rattle.name_machine.specs.States.{Machine, Ask as AskOf}
-use Rattle.name_machine.specs.Machine.{IsLegalRun}
+use Rattle.name_machine.specs.Control.{Control, no_control, tidied, effect_with}
+use Rattle.name_machine.specs.Forgetting.{forgotten}
+use Rattle.name_machine.specs.Standing.{machine_of, IsOrderly, HasNothing, HoldsNothing}
+use Rattle.name_machine.specs.States.{Machine, Ask as AskOf, opening, tree_named}
+use Rattle.name_machine.specs.Machine.{IsStep, IsLegalRun}
 use Rattle.name_machine.specs.Facts.{HoldsTogether}
-use Rattle.name_machine.specs.Replay.{Plans, Replayed, is_mine, is_planned, happens, replay}
+use Rattle.name_machine.specs.Parts.{is_callers_own, is_workers_own, work_left, account_of, caller_part, worker_part}
+use Rattle.name_machine.specs.Replay.{Plans, Replayed, is_mine, is_planned, is_allowed, happens, replay}
 
 module _ {K : Type 0} where
   -- whether an event is the finish of a task
@@ -38,6 +43,93 @@ module _ {K : Type 0} where
 abbrev pub FactsHold : {C K : Type 0} → Meanings C K → (C → ℕ) → Type 0
 FactsHold {C} {K} lib arity =
     (events : List (Event K)) (after : Machine C K) → IsLegalRun lib arity events after → HoldsTogether lib after
+
+-- ---- Parts
+
+module _ {C K : Type 0} where
+  -- What an event makes of the account of a caller: its own ask adds the work of the asked kind on the trees of the inputs, its own
+  -- abandon takes off what was left to do for it, and every other event leaves it.
+  abbrev pub account_then : Meanings C K → Machine C K → ℕ → Event K → ℕ → ℕ
+  account_then lib before caller (Register by id children) account = account
+  account_then lib before caller (Copy by from to) account = account
+  account_then lib before caller (Delete by id) account = account
+  account_then lib before caller (Ask by task kind inputs) account =
+      if by == caller then account + lib.work kind (each (tree_named before) inputs) else account
+  account_then lib before caller (Collect by task got) account = account
+  account_then lib before caller (Abandon by) account = if by == caller then account - work_left lib before caller else account
+  account_then lib before caller (Stop by) account = account
+  account_then lib before caller (Start worker task) account = account
+  account_then lib before caller (GiveBack worker task) account = account
+  account_then lib before caller (Finish worker task chunks tasks result) account = account
+
+-- an event, after a legal run, changes the account of each caller as told
+abbrev pub AccountsChange : {C K : Type 0} → Meanings C K → (C → ℕ) → Type 0
+AccountsChange {C} {K} lib arity =
+    (events : List (Event K)) (before after : Machine C K) (event : Event K) (caller : ℕ) → IsLegalRun lib arity events before
+    → IsStep lib arity before event after
+    → account_of lib after (events ++ event ∷ []) caller ≡ account_then lib before caller event (account_of lib before events caller)
+
+-- an event, after a legal run, leaves the part of each caller whose own it is not
+abbrev pub LeavesCallers : {C K : Type 0} → Meanings C K → (C → ℕ) → Type 0
+LeavesCallers {C} {K} lib arity =
+    (events : List (Event K)) (before after : Machine C K) (event : Event K) (caller : ℕ) → IsLegalRun lib arity events before
+    → IsStep lib arity before event after → is_callers_own caller event ≡ false
+    → caller_part lib after (events ++ event ∷ []) caller ≡ caller_part lib before events caller
+
+-- an event, after a legal run, leaves the part of each worker whose own it is not
+abbrev pub LeavesWorkers : {C K : Type 0} → Meanings C K → (C → ℕ) → Type 0
+LeavesWorkers {C} {K} lib arity =
+    (events : List (Event K)) (before after : Machine C K) (event : Event K) (worker : ℕ) → IsLegalRun lib arity events before
+    → IsStep lib arity before event after → is_workers_own worker event ≡ false
+    → worker_part after (events ++ event ∷ []) worker ≡ worker_part before events worker
+
+-- ---- Stops
+
+module _ {K : Type 0} where
+  -- whether an event is a caller's ask, or its abandon
+  abbrev pub asks_or_abandons : ℕ → Event K → Bool
+  asks_or_abandons caller (Register by id children) = false
+  asks_or_abandons caller (Copy by from to) = false
+  asks_or_abandons caller (Delete by id) = false
+  asks_or_abandons caller (Ask by task kind inputs) = by == caller
+  asks_or_abandons caller (Collect by task got) = false
+  asks_or_abandons caller (Abandon by) = by == caller
+  asks_or_abandons caller (Stop by) = false
+  asks_or_abandons caller (Start worker task) = false
+  asks_or_abandons caller (GiveBack worker task) = false
+  asks_or_abandons caller (Finish worker task chunks tasks result) = false
+
+  -- whether an event is a caller's abandon
+  abbrev pub abandons : ℕ → Event K → Bool
+  abandons caller (Register by id children) = false
+  abandons caller (Copy by from to) = false
+  abandons caller (Delete by id) = false
+  abandons caller (Ask by task kind inputs) = false
+  abandons caller (Collect by task got) = false
+  abandons caller (Abandon by) = by == caller
+  abandons caller (Stop by) = false
+  abandons caller (Start worker task) = false
+  abandons caller (GiveBack worker task) = false
+  abandons caller (Finish worker task chunks tasks result) = false
+
+  -- A stop of a caller stands among some events, and no ask and no abandon of the caller after it: what it asked, it asked before.
+  pub record HasStopLast (caller : ℕ) (events : List (Event K)) : Type 0 where
+    pub front : List (Event K)
+    pub back : List (Event K)
+    pub split : events ≡ front ++ Stop caller ∷ back
+    pub none_since : list_any (asks_or_abandons caller) back ≡ false
+
+-- where a caller is stopped its asks are older than its last stop
+abbrev pub StopsAreLast : {C K : Type 0} → Meanings C K → (C → ℕ) → Type 0
+StopsAreLast {C} {K} lib arity =
+    (events : List (Event K)) (after : Machine C K) (caller : ℕ) → IsLegalRun lib arity events after → is_stopped after.graph caller ≡ true
+    → HasStopLast caller events
+
+-- where a caller is not stopped it abandoned after each of its stops
+abbrev pub StopsEnd : {C K : Type 0} → Meanings C K → (C → ℕ) → Type 0
+StopsEnd {C} {K} lib arity =
+    (events front back : List (Event K)) (after : Machine C K) (caller : ℕ) → IsLegalRun lib arity events after
+    → is_stopped after.graph caller ≡ false → events ≡ front ++ Stop caller ∷ back → list_any (abandons caller) back ≡ true
 
 -- in a list of events that can be replayed no task is finished twice
 abbrev pub FinishedOnce : {K : Type 0} → Plans K → Type 0
@@ -119,3 +211,35 @@ RefusesUnplanned {K} plans =
     (control : Replayed K) (worker task : ℕ) (unfinished : Unfinished Ref K) (chunks : List Places) (tasks : List (NewTask K)) (result : Place)
     → task_at control.graph task ≡ Some unfinished → is_planned plans control.names unfinished chunks tasks result ≡ false
     → happens plans control (Finish worker task chunks tasks result) ≡ None
+
+-- ---- What a control state stands for
+
+-- the opening state stands for the opening state, and has nothing in it
+abbrev pub OpeningStands : {C K : Type 0} → Meanings C K → Type 0
+OpeningStands {C} {K} lib = machine_of lib (no_control {B = C} {G = Unit {0}} {K = K}) ≡ opening
+
+-- a state in which nothing is held, asked or unfinished is stood for exactly by the control states that have nothing
+abbrev pub EmptyBothWays : {C K : Type 0} → Meanings C K → (C → ℕ) → Type 0
+EmptyBothWays {C} {K} lib arity =
+    (control : Control C (Unit {0}) K) → IsOrderly arity control → HasNothing control ↔ HoldsNothing (machine_of lib control)
+
+-- An event ends nothing, and what the machine asks of it beside a replay is so: a register of one content, with as many children as it
+-- wants; an ask whose goal is defined on the trees of what is mentioned; a copy, a stop, a start, or a give-back.
+abbrev pub EndsNothing : {C K : Type 0} → Meanings C K → (C → ℕ) → Machine C K → List C → Event K → Type 0
+EndsNothing {C} {K} lib arity before contents (Register caller id children) = (content : C) × (contents ≡ content ∷ []) × (length children ≡ arity content)
+EndsNothing lib arity before contents (Copy caller from to) = Unit {0}
+EndsNothing lib arity before contents (Delete caller id) = ⊥
+EndsNothing lib arity before contents (Ask caller number kind inputs) = lib.defined kind (each (tree_named before) inputs)
+EndsNothing lib arity before contents (Collect caller number got) = ⊥
+EndsNothing lib arity before contents (Abandon caller) = ⊥
+EndsNothing lib arity before contents (Stop caller) = Unit {0}
+EndsNothing lib arity before contents (Start worker number) = Unit {0}
+EndsNothing lib arity before contents (GiveBack worker number) = Unit {0}
+EndsNothing lib arity before contents (Finish worker number chunks tasks result) = ⊥
+
+-- such an event, where it is allowed, is the step of the machine of its name between the states that are stood for
+abbrev pub StandsStep : {C K : Type 0} → Meanings C K → (C → ℕ) → Plans K → Type 0
+StandsStep {C} {K} lib arity plans =
+    (control : Control C (Unit {0}) K) (contents : List C) (event : Event K) → IsOrderly arity control → HoldsTogether lib (machine_of lib control)
+    → EndsNothing lib arity (machine_of lib control) contents event → is_allowed plans (forgotten arity control) event ≡ true
+    → IsStep lib arity (machine_of lib control) event (machine_of lib (tidied (effect_with control contents event)))

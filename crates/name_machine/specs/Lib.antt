@@ -5,6 +5,8 @@ pub mod Machine
 pub mod Goals
 pub mod Control
 pub mod Replay
+pub mod Forgetting
+pub mod Standing
 pub mod Facts
 pub mod Parts
 pub mod Laws

@@ -21,7 +21,7 @@ use Rattle.task_states.specs.States.{Unfinished, task_at, status, is_stopped, ru
 use Rattle.cht_history.specs.declared.event.Event.{Event}
 use Rattle.cht_history.specs.declared.event.Event.TheVariants.{Register, Copy, Delete, Ask as AskEvent, Collect, Abandon, Stop, Start, GiveBack, Finish}
 use Rattle.name_machine.specs.States.{Ask, has_ask}
-use Rattle.name_machine.specs.Control.{Control, no_control, tidied, ref_at, ref_known, is_uncollected, register_event, copy_event, delete_event, ask_event, collect_event, abandon_event, stop_event, start_event, give_back_event, finish_event}
+use Rattle.name_machine.specs.Control.{Control, no_control, tidied, ref_at, ref_known, is_uncollected, effect_with}
 
 -- what a replay knows of a library: the shapes that an outcome of a kind may have, and whether two kinds are the same
 pub record Plans (K : Type 0) : Type 0 where
@@ -145,25 +145,22 @@ module _ {K : Type 0} where
 
   -- ---- Replay
 
-  -- what is left of a finish where there is such a task
-  abbrev pub after_finish : Replayed K → ℕ → ℕ → List Places → List (NewTask K) → Place → Option (Unfinished Ref K) → Replayed K
-  after_finish control worker task chunks tasks result None = control
-  after_finish control worker task chunks tasks result (Some unfinished) =
-      finish_event control worker task unfinished (each (λ chunk. length (places_of chunk)) chunks) chunks tasks result
+  -- what is kept of the contents that an event registers: the numbers of their children
+  abbrev pub arities : Event K → List ℕ
+  arities (Register caller id children) = length children ∷ []
+  arities (Copy caller from to) = []
+  arities (Delete caller id) = []
+  arities (AskEvent caller task kind inputs) = []
+  arities (Collect caller task got) = []
+  arities (Abandon caller) = []
+  arities (Stop caller) = []
+  arities (Start worker task) = []
+  arities (GiveBack worker task) = []
+  arities (Finish worker task chunks tasks result) = each (λ chunk. length (places_of chunk)) chunks
 
   -- what an event makes of a state, before what is not reached goes
   abbrev pub effect : Replayed K → Event K → Replayed K
-  effect control (Register caller id children) = register_event control caller (length children) children
-  effect control (Copy caller from to) = copy_event control caller from
-  effect control (Delete caller id) = delete_event control id
-  effect control (AskEvent caller task kind inputs) = ask_event control caller tt kind inputs
-  effect control (Collect caller task got) = collect_event control task
-  effect control (Abandon caller) = abandon_event control caller
-  effect control (Stop caller) = stop_event control caller
-  effect control (Start worker task) = start_event control worker task
-  effect control (GiveBack worker task) = give_back_event control task
-  effect control (Finish worker task chunks tasks result) =
-      after_finish control worker task chunks tasks result (task_at control.graph task)
+  effect control event = effect_with control (arities event) event
 
   -- the state after an event, and a failure where it is not allowed; what is not reached goes
   abbrev pub happens : Plans K → Replayed K → Event K → Option (Replayed K)

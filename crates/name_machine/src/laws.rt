@@ -1,8 +1,10 @@
 //! The laws of the machine of names and of its replay. Each function does nothing: its contract is the law, which
 //! `specs/Laws.antt` states.
 
+ghost use Rattle.std.specs.Prelude.{ℕ};
+ghost use Rattle.name_machine.specs.Forgetting.{ForgettingReplays};
 ghost use Rattle.name_machine.specs.Replay.{Plans};
-ghost use Rattle.name_machine.specs.Laws.{FactsHold, FinishedOnce, RefusesStrange, DeadIsStrange, OthersAreStrange, UncollectedIsStrange, RefusesOutOfTurn, RefusesNotReady, RefusesSecondStart, RefusesUnplanned};
+ghost use Rattle.name_machine.specs.Laws.{AccountsChange, LeavesCallers, LeavesWorkers, FactsHold, StopsAreLast, StopsEnd, FinishedOnce, RefusesStrange, DeadIsStrange, OthersAreStrange, UncollectedIsStrange, RefusesOutOfTurn, RefusesNotReady, RefusesSecondStart, RefusesUnplanned, OpeningStands, EmptyBothWays, StandsStep};
 
 use task_types::Library;
 
@@ -29,4 +31,38 @@ pub fn refusals<K>()
 /// In every state that a legal run of a library reaches the facts hold.
 pub fn facts_hold<L: Library>()
     ensures { FactsHold L.meanings L.Chunk.arity }
+{}
+
+/// An event after a legal run changes the account of each caller as told: its own ask adds work, its own abandon takes
+/// off what was left to do, and nothing else changes it.
+pub fn accounts_change<L: Library>()
+    ensures { AccountsChange L.meanings L.Chunk.arity }
+{}
+
+/// An event after a legal run leaves the part of each caller and of each worker whose own it is not.
+pub fn parts_stay<L: Library>()
+    ensures callers { LeavesCallers L.meanings L.Chunk.arity }
+    ensures workers { LeavesWorkers L.meanings L.Chunk.arity }
+{}
+
+/// After a legal run a caller is stopped exactly where a stop of it stands among the events with no abandon of it since.
+/// It has asked nothing since then: its asks are older than the stop.
+pub fn stops<L: Library>()
+    ensures last { StopsAreLast L.meanings L.Chunk.arity }
+    ensures end { StopsEnd L.meanings L.Chunk.arity }
+{}
+
+/// An event that is allowed does, in a control state that keeps contents, what a replay makes of it with the number of
+/// children in place of each content, whatever the plans are.
+pub fn forgetting_replays<C, K>()
+    ensures { (arity : C → ℕ) (plans : Plans K) → ForgettingReplays arity plans }
+{}
+
+/// What a control state with contents stands for: the opening state stands for the opening state; it has nothing in
+/// it exactly where what it stands for has nothing; and a register, a copy, an ask, a stop, a start and a give-back are
+/// the machine's steps between the states that are stood for.
+pub fn standing<L: Library>()
+    ensures opening { OpeningStands L.meanings }
+    ensures empty { EmptyBothWays L.meanings L.Chunk.arity }
+    ensures steps { (plans : Plans L.Kind) → StandsStep L.meanings L.Chunk.arity plans }
 {}

@@ -3,4 +3,7 @@
 
 mod laws;
 
-pub use laws::{facts_hold, finished_once, refusals};
+pub use laws::{
+    accounts_change, facts_hold, finished_once, forgetting_replays, parts_stay, refusals, standing,
+    stops,
+};

@@ -7,3 +7,5 @@ pub mod SweptOnce
 pub mod Values
 pub mod Within
 pub mod WithoutContents
+pub mod Trees
+pub mod TreeRegistered

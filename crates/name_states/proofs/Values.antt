@@ -12,7 +12,7 @@ use Rattle.name_states.proofs.Basics.{get_inserted, get_retained}
 
 module _ {X Y : Type 0} (f : X → Y) where
   -- entries with each value replaced
-  abbrev replaced : List (ℕ × X) → List (ℕ × Y)
+  abbrev pub replaced : List (ℕ × X) → List (ℕ × Y)
   replaced es = each (λ e. (e.0, f e.1)) es
 
   below_replaced : (k : ℕ) (es : List (ℕ × X)) → below_all nat_cmp k (replaced es) ≡ below_all nat_cmp k es
@@ -27,7 +27,7 @@ module _ {X Y : Type 0} (f : X → Y) where
   keys_replaced [] = refl
   keys_replaced (e ∷ es) = ap (λ ks. e.0 ∷ ks) (keys_replaced es)
 
-  entries_replaced : (m : map.FinMap nat_cmp X) → map.entries (each_value f m) ≡ replaced (map.entries m)
+  pub entries_replaced : (m : map.FinMap nat_cmp X) → map.entries (each_value f m) ≡ replaced (map.entries m)
   entries_replaced m =
       map.entries-from_sorted nat_cmp (replaced (map.entries m)) (subst T (sym (sorted_replaced (map.entries m))) (map.entries_sorted m))
 

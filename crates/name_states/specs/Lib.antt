@@ -5,3 +5,4 @@ pub mod Rules
 pub mod Codes
 pub mod WithoutContents
 pub mod Laws
+pub mod Trees

@@ -1,5 +1,5 @@
 -- What a finite map holds under a key, once its values were changed or left out. For every crate that cites `specs/Maps.antt`.
-use Rattle.std.proofs.Common.{◌≡◌, ◌≢◌, ℕ, ◌+◌, ◌-◌, Bool, true, false, cond, ◌&&◌, T, List, [], ◌∷◌, Option, Some, None, is_some, nat_eq, refl, sym, ap, subst, ◌∙◌, ◌⊎◌, inl, inr, arith}
+use Rattle.std.proofs.Common.{◌≡◌, ◌≢◌, ℕ, ◌+◌, ◌-◌, Bool, true, false, cond, ◌&&◌, T, List, [], ◌∷◌, Option, Some, None, is_some, nat_eq, refl, sym, ap, subst, ◌∙◌, ◌⊎◌, inl, inr, arith, length, suc, ◌≤◌}
 use Rattle.std.specs.Option.{option_map, option_and_then}
 use Rattle.std.specs.Ordering.{nat_cmp, eq_by_cmp, is_lt, is_eq}
 use Rattle.std.specs.Cmp.{nat_cmp_total, unsigned_tied}
@@ -97,3 +97,30 @@ module _ {X : Type 0} where
 
   pub get_removed : (m : map.FinMap nat_cmp X) (key q : ℕ) → map.get (map.remove m key) q ≡ cond (nat_eq q key) None (map.get m q)
   get_removed m key q = map.get-remove nat_cmp_total m key q ∙ ap (λ b. cond b None (map.get m q)) (unsigned_tied q key)
+
+-- how many values are kept
+module _ {X Y : Type 0} (choice : ℕ → X → Option Y) where
+  length_onto : (key : ℕ) (value : Option Y) (entries : List (ℕ × Y)) → length (onto key value entries) ≤ length entries + 1
+  length_onto key None entries = omega arith
+  length_onto key (Some value) entries = omega arith
+
+  length_chosen : (entries : List (ℕ × X)) → length (chosen_of choice entries) ≤ length entries
+  length_chosen [] = omega arith
+  length_chosen (e ∷ entries) = let a = length_onto e.0 (choice e.0 e.1) (chosen_of choice entries) in let b = length_chosen entries in omega arith
+
+len_entries : {Y : Type 0} (entries : List (ℕ × Y)) → map.len (map.from_entries {R = nat_cmp} entries) ≤ length entries
+len_entries {Y} [] = let e = map.len-empty nat_cmp Y in omega arith
+len_entries (e ∷ entries) =
+    let one = map.len-insert nat_cmp_total (map.from_entries {R = nat_cmp} entries) e.0 e.1 in
+    let rest = len_entries entries in
+    elim (map.contains_key (map.from_entries {R = nat_cmp} entries) e.0) as (λ b. map.len (map.insert (map.from_entries {R = nat_cmp} entries) e.0 e.1) ≡ cond b (map.len (map.from_entries {R = nat_cmp} entries)) (map.len (map.from_entries {R = nat_cmp} entries) + 1)
+        → map.len (map.insert (map.from_entries {R = nat_cmp} entries) e.0 e.1) ≤ suc (length entries)) [ true ↦ λ is. omega arith | false ↦ λ is. omega arith ] one
+
+-- no more values than there were
+pub len-kept : {X : Type 0} (test : X → Bool) (m : map.FinMap nat_cmp X) → map.len (kept test m) ≤ map.len m
+unfolding chosen
+len-kept test m =
+    let a = len_entries (chosen_of (λ key value. cond (test value) (Some value) None) (map.entries m)) in
+    let b = length_chosen (λ key value. cond (test value) (Some value) None) (map.entries m) in
+    let c = map.len-entries m in
+    omega arith

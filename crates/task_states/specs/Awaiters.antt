@@ -10,6 +10,11 @@ abbrev pub number_of : Awaiter → ℕ
 number_of (AtInput task place number) = number
 number_of (Asked caller number) = number
 
+-- the task whose input an awaiter is, if it is one
+abbrev pub task_of : Awaiter → Option ℕ
+task_of (AtInput task place number) = Some task
+task_of (Asked caller number) = None
+
 -- nothing where no number is of the kind, and else the least of them
 abbrev pub IsLeastOf : (ℕ → Type 0) → Option ℕ → Type 0
 IsLeastOf IsOne None = (number : ℕ) → IsOne number → ⊥
@@ -36,6 +41,11 @@ module _ {X K : Type 0} where
   pub record IsLeastAwaiter (graph : Graph X K) (task : ℕ) (awaiter : Awaiter) : Type 0 where
     pub awaits : IsAwaiter graph task awaiter
     pub least : (other : Awaiter) → IsAwaiter graph task other → number_of awaiter ≤ number_of other
+
+  -- nothing where nobody awaits a task, and else its awaiter with the least number
+  abbrev pub IsAwaiterFound : Graph X K → ℕ → Option Awaiter → Type 0
+  IsAwaiterFound graph task None = IsNotAwaited graph task
+  IsAwaiterFound graph task (Some awaiter) = IsLeastAwaiter graph task awaiter
 
   -- no awaiter of any task has a number
   abbrev pub IsFree : Graph X K → ℕ → Type 0

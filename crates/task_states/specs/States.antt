@@ -1,5 +1,5 @@
 -- The unfinished tasks. What a known input is stays open: a reference where a program runs, a tree where it is given a meaning.
-use Rattle.std.specs.Prelude.{ℕ, Bool, true, false, ◌==◌, ◌&&◌, if◌then◌else◌, List, slice_get, Option, None, Some}
+use Rattle.std.specs.Prelude.{◌≡◌, ℕ, Bool, true, false, ◌==◌, ◌&&◌, if◌then◌else◌, List, slice_get, Option, None, Some}
 use Rattle.std.specs.List.{list_any}
 use Rattle.std.specs.Option.{option_map, is_some}
 use Rattle.std.specs.Ordering.{nat_cmp}
@@ -66,6 +66,10 @@ module _ {X K : Type 0} where
   -- the input of a task at a place, counted from 0
   abbrev pub input_at : Graph X K → ℕ → ℕ → Option (Input X)
   input_at graph number place = elim (task_at graph number) [ None ↦ None | Some task ↦ slice_get task.inputs place ]
+
+  -- a task that awaits nothing
+  abbrev pub AwaitsNothing : Graph X K → ℕ → Type 0
+  AwaitsNothing graph number = (place : ℕ) (task : ℕ) (drawn : ℕ) → input_at graph number place ≡ Some (Awaits task drawn) → ⊥
 
   -- the caller of a task
   abbrev pub caller_of : Graph X K → ℕ → Option ℕ

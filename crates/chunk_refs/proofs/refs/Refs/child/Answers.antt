@@ -4,7 +4,7 @@ use Rattle.task_types.specs.Tree.{child}
 use Rattle.cht_ids.specs.declared.refs.Ref.TheVariants.{Id as Held}
 use Rattle.chunk_refs.specs.Room.{Contents}
 use Rattle.name_states.specs.States.{content_of, IsLiveRef}
-use Rattle.chunk_refs.specs.Trees.{tree_of}
+use Rattle.name_states.specs.Trees.{tree_of}
 use Rattle.chunk_refs.specs.Inside.{names_of, shown_chunk}
 use Rattle.chunk_refs.proofs.Calls.{child-within, child-tree, few-refs}
 use Rattle.chunk_refs.specs.Others.{IsHeldByBodyOf}

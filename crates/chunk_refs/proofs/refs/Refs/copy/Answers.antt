@@ -2,7 +2,7 @@ use Rattle.std.proofs.Common.{◌≡◌, Some, ap, sym, subst, ◌∙◌}
 use Rattle.cht_ids.specs.declared.refs.Ref.TheVariants.{Id as Held}
 use Rattle.chunk_refs.specs.Room.{Contents}
 use Rattle.name_states.specs.States.{holder_of, body_of}
-use Rattle.chunk_refs.specs.Trees.{tree_of}
+use Rattle.name_states.specs.Trees.{tree_of}
 use Rattle.name_states.specs.Steps.{copied}
 use Rattle.name_states.specs.Rules.{IsSound, AreWithin, AreReached}
 use Rattle.chunk_refs.specs.Others.{AreAllAsBefore, IsOnlyNew}

@@ -4,7 +4,7 @@ use Rattle.cht_ids.specs.declared.refs.Ref.TheVariants.{Id as Held}
 use Rattle.task_types.specs.Tree.{rooted}
 use Rattle.chunk_refs.specs.Room.{Contents}
 use Rattle.name_states.specs.States.{children_of}
-use Rattle.chunk_refs.specs.Trees.{tree_of}
+use Rattle.name_states.specs.Trees.{tree_of}
 use Rattle.chunk_refs.specs.Inside.{names_of, shown_chunk}
 use Rattle.chunk_refs.proofs.Calls.{look-tree}
 use Rattle.chunk_refs.proofs.refs.Refs.look.Goals as goal

@@ -3,13 +3,13 @@ use Rattle.cht_ids.specs.declared.refs.Id.{Id}
 use Rattle.cht_ids.specs.declared.refs.Ref.TheVariants.{Id as Held}
 use Rattle.chunk_refs.specs.Room.{Contents, spare_of}
 use Rattle.name_states.specs.States.{AreLive, holder_of, body_of, children_of}
-use Rattle.chunk_refs.specs.Trees.{tree_of}
+use Rattle.name_states.specs.Trees.{tree_of}
 use Rattle.name_states.specs.Steps.{registered, present, numbered}
 use Rattle.name_states.specs.Rules.{IsSound, AreWithin, AreReached}
 use Rattle.chunk_refs.specs.Others.{AreAllAsBefore, IsOnlyNew}
 use Rattle.chunk_refs.specs.Inside.{names_of, all_four, refs_of}
 use Rattle.chunk_refs.proofs.Calls.{register-others, register-held, register-body, register-children}
-use Rattle.chunk_refs.proofs.Grown.{tree-registered}
+use Rattle.name_states.proofs.TreeRegistered.{tree-registered}
 use Rattle.name_states.proofs.Sound.{sound-registered, registered-within}
 use Rattle.chunk_refs.proofs.Padded.{live-padded, present-padded}
 use Rattle.chunk_refs.proofs.Ending.{all-named-once}

@@ -6,7 +6,7 @@ use Rattle.cht_ids.specs.declared.refs.Ref.{Ref}
 use Rattle.cht_ids.specs.declared.refs.Ref.TheVariants.{Null, Id as Held}
 use Rattle.task_types.specs.Tree.{Tree, Nothing, rooted}
 use Rattle.name_states.specs.States.{NameState, IdRecord, BodyRecord, body_at, record_of, owned_by, IsLiveRef}
-use Rattle.chunk_refs.specs.Trees.{tree_named, led_to, grown, tree_within, body_tree, tree_of}
+use Rattle.name_states.specs.Trees.{tree_named, led_to, grown, tree_within, body_tree, tree_of}
 use Rattle.name_states.specs.Rules.{IsSound}
 use Rattle.name_states.proofs.Basics.{same_some, some_value}
 use Rattle.name_states.proofs.Within.{AreMore, naming_of-kept, live-number, owned-same}
