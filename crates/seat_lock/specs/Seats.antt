@@ -26,6 +26,10 @@ module _ {P : Type 0} where
 abbrev pub value_of : {V : Type 0} → Turn V → V
 value_of turn = turn.value
 
+-- the turn with another value
+abbrev pub turn_with : {V : Type 0} → Turn V → V → Turn V
+turn_with turn value = record turn { value = value }
+
 module _ {V P : Type 0} where
   -- what a seat out of a turn holds of the slot, and in a turn, after it moved the value out
   abbrev pub in_hand : Option (List P) → List (ℕ × Option V)
