@@ -1,0 +1,12 @@
+//! Deques of task numbers, one for each worker: the owner exposes and takes at one end, thieves steal at the other.
+#![tactic(auto)]
+
+mod own;
+mod owning;
+mod rule;
+mod stealing;
+mod victim;
+
+pub use own::Own;
+pub use rule::View;
+pub use victim::Victim;
