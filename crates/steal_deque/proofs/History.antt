@@ -1,5 +1,5 @@
 -- Each kind of step keeps the order of the steals.
-use Rattle.std.proofs.Common.{◌≡◌, ◌≢◌, ℕ, zero, suc, ◌+◌, ◌<◌, ◌≤◌, ◌==◌, if◌then◌else◌, true, false, true≢false, List, [], ◌∷◌, ◌++◌, map, length, set, sym, refl, ap, ◌∙◌, subst, ⊎_elim, append_assoc, append-nil, length-append, arith, eq-eqb, ne_eqb, IsPermutation}
+use Rattle.std.proofs.Common.{◌≡◌, ◌≢◌, ◌⊎◌, ℕ, zero, suc, ◌+◌, ◌<◌, ◌≤◌, ◌==◌, if◌then◌else◌, true, false, true≢false, List, [], ◌∷◌, ◌++◌, map, length, set, sym, refl, ap, ◌∙◌, subst, ⊎_elim, inl, inr, append_assoc, append-nil, length-append, arith, eq-eqb, ne_eqb, IsPermutation}
 use Rattle.std.proofs.lemmas.List.Sorted.{IsPermutation-refl, IsPermutation-append_left, IsPermutation-append_right, IsPermutation-append_comm, IsPermutation-trans}
 use mathlib.Core.Option.{some, some-injective, some-ne-none}
 use mathlib.Core.Logic.{dite}
@@ -164,3 +164,76 @@ steals port v pos live xs items views some_ one (log, h) here = let w : View = s
       }),
       refl,
     )
+
+-- where a list is one longer, an item stands where it stood, or at the end
+at_end : (l : List View) (a b : View) (j : ℕ) → get_elem? (l ++ a ∷ []) j ≡ some b → (get_elem? l j ≡ some b) ⊎ ((j ≡ length l) × (a ≡ b))
+at_end [] a b zero e = inr (refl, some-injective a b e)
+at_end [] a b (suc j) e = absurd (some-ne-none b (sym e))
+at_end (x ∷ xs) a b zero e = inl e
+at_end (x ∷ xs) a b (suc j) e = ⊎_elim (λ h. inl h) (λ h. inr (ap suc h.0, h.1)) (at_end xs a b j e)
+
+pub forks : (port : ℕ) (v : View) → v.port ≡ 0 → v.over ≡ false → v.joined ≡ [] → Forks Kept port v (one_more v) (newcomer v)
+forks port v zero_ live alone items views (log, h) here = let l : View = one_more v in let r : View = newcomer v in let vs : List View = set views port l in
+    let first : port ≡ 0 = owner_at log items views port v h here live zero_ in
+    let mine : IsOwner log items views v = h.owner v (ap (λ k. get_elem? views k) (sym first) ∙ here) in
+    let same : length vs ≡ length views = length_same views port l in
+    let longer : length (vs ++ r ∷ []) ≡ length views + 1 = length-append vs (r ∷ []) ∙ ap (λ k. k + 1) same in
+    let own : IsOwner log items (vs ++ r ∷ []) l = record {
+      port = zero_; over = live; made = ap (λ k. k + 1) mine.made ∙ sym longer; pending = mine.pending; exposed = mine.exposed;
+      took = mine.took; gone = subst (λ j. AreOver (vs ++ r ∷ []) j) (sym alone) tt } in
+    let at : get_elem? (vs ++ r ∷ []) port ≡ some l = at_longer vs (r ∷ []) port l (get_set views port v l here) in
+    let every : (F : ℕ → View → Type 0) → F port l → F (length views) r → ((j : ℕ) (u : View) → get_elem? views j ≡ some u → F j u) → (j : ℕ) (u : View) → get_elem? (vs ++ r ∷ []) j ≡ some u → F j u
+        = λ F left right old j u e. ⊎_elim (λ (x : get_elem? vs j ≡ some u). every_set F views port l left (λ k y ne f. old k y f) j u x)
+            (λ (x : (j ≡ length vs) × (r ≡ u)). subst (λ (y : ℕ × View). F y.0 y.1) (λ i. (sym (x.0 ∙ same) i, x.1 i)) right) (at_end vs r u j e) in (
+      log,
+      record {
+        owner = λ u e. subst (λ (y : View). IsOwner log items (vs ++ r ∷ []) y) (some-injective l u (sym at ∙ ap (λ k. get_elem? (vs ++ r ∷ []) k) first ∙ e)) own;
+        named = every (λ j u. u.over ≡ false → u.port ≡ j) (λ _. h.named port v here live) (λ _. mine.made) h.named;
+        took = every (λ j u. u.over ≡ false → 0 < j → by j log ≡ u.taken) (λ _ pos. absurd (omega (arith, first, pos))) (λ _ _. h.others (length views) (omega arith)) h.took;
+        others = λ j le. h.others j (omega (arith, longer, le));
+        never = h.never;
+      },
+    )
+
+took_more : (log : List Stolen) (passes : List (ℕ × List ℕ)) (p : ℕ × List ℕ) → Took log passes → by p.0 log ≡ p.1 → Took log (passes ++ p ∷ [])
+took_more log [] p t e = (e, tt)
+took_more log (q ∷ qs) p t e = (t.0, took_more log qs p t.1 e)
+
+over_more : (views : List View) (passes : List (ℕ × List ℕ)) (p : ℕ × List ℕ) → AreOver views passes → ((v : View) → get_elem? views p.0 ≡ some v → v.over ≡ true) → AreOver views (passes ++ p ∷ [])
+over_more views [] p t e = (e, tt)
+over_more views (q ∷ qs) p t e = (t.0, over_more views qs p t.1 e)
+
+over_spent : (views : List View) (other : ℕ) (passes : List (ℕ × List ℕ)) → AreOver views passes → AreOver (set views other spent) passes
+over_spent views other [] gone = tt
+over_spent views other (p ∷ ps) gone = ((λ u e. ⊎_elim (λ (x : (p.0 ≡ other) × (spent ≡ u)). ap (λ (y : View). y.over) (sym x.1)) (λ (x : (p.0 ≢ other) × (get_elem? views p.0 ≡ some u)). gone.0 u x.1) (at_set views other p.0 spent u e)), over_spent views other ps gone.1)
+
+pub merges : (port : ℕ) (v : View) (other : ℕ) (w : View) → v.port ≡ 0 → v.over ≡ false → 0 < w.port → w.over ≡ false → Merges Kept port v other w (joined_with v w) spent
+merges port v other w zero_ live pos thief items views (log, h) here two there = let b : View = joined_with v w in let vs : List View = set views port b in let us : List View = set vs other spent in
+    let first : port ≡ 0 = owner_at log items views port v h here live zero_ in
+    let mine : IsOwner log items views v = h.owner v (ap (λ k. get_elem? views k) (sym first) ∙ here) in
+    let was : get_elem? views other ≡ some w = sym (set_else views port other b two) ∙ there in
+    let named : w.port ≡ other = h.named other w was thief in
+    let long : length us ≡ length views = length_same vs other spent ∙ length_same views port b in
+    let own : IsOwner log items us b = record {
+      port = zero_; over = live; made = mine.made ∙ sym long; pending = mine.pending; exposed = mine.exposed;
+      took = took_more log v.joined (w.port, w.taken) mine.took (ap (λ k. by k log) named ∙ h.took other w was thief (omega (arith, pos, named)));
+      gone = over_more us v.joined (w.port, w.taken) (over_spent vs other v.joined (over_set views port v b v.joined here live mine.gone))
+          (λ u e. ap (λ (y : View). y.over) (sym (some-injective spent u (sym (get_set vs other w spent there) ∙ ap (λ k. get_elem? us k) (sym named) ∙ e)))) } in
+    let at : get_elem? us port ≡ some b = set_else vs other port spent (λ e. two (sym e)) ∙ get_set views port v b here in
+    let every : (F : ℕ → View → Type 0) → F port b → F other spent → ((j : ℕ) (u : View) → get_elem? views j ≡ some u → F j u) → (j : ℕ) (u : View) → get_elem? us j ≡ some u → F j u
+        = λ F left right old. every_set F vs other spent right (λ j u _ e. every_set F views port b left (λ k y _ f. old k y f) j u e) in (
+      log,
+      record {
+        owner = λ u e. subst (λ (y : View). IsOwner log items us y) (some-injective b u (sym at ∙ ap (λ k. get_elem? us k) first ∙ e)) own;
+        named = every (λ j u. u.over ≡ false → u.port ≡ j) (λ _. h.named port v here live) (λ f. absurd (true≢false f)) h.named;
+        took = every (λ j u. u.over ≡ false → 0 < j → by j log ≡ u.taken) (λ _ p. absurd (omega (arith, first, p))) (λ f. absurd (true≢false f)) h.took;
+        others = λ j le. h.others j (omega (arith, long, le));
+        never = h.never;
+      },
+    )
+
+pub learns : (port : ℕ) (v : View) → v.port ≡ 0 → v.over ≡ false → Learns Kept port v (Settles v)
+learns port v zero_ live items views (log, h) here =
+    let first : port ≡ 0 = owner_at log items views port v h here live zero_ in
+    let mine : IsOwner log items views v = h.owner v (ap (λ k. get_elem? views k) (sym first) ∙ here) in
+    (log, mine.pending, mine.exposed, mine.took, (λ j le. let n = mine.made in h.others j (omega (arith, n, le))), h.never)

@@ -1,6 +1,7 @@
 -- What a clause says of an owner's end and of a thief's.
 use Rattle.std.specs.Prelude.{◌≡◌, ℕ, List}
 use Rattle.std.specs.declared.alloc.Global.{Global}
+use Rattle.atomic_blocks.specs.Lent.{RowsId}
 use Rattle.crossbeam_deque.specs.Handles.{worker_view, worker_deque, stealer_deque, view}
 use Rattle.steal_deque.specs.declared.rule.View.{View}
 use Rattle.steal_deque.specs.declared.own.Own.{Own}
@@ -33,3 +34,13 @@ victim_view victim = view victim.pass
 -- it is a thief's end of the same deque
 abbrev pub SameVictim : Victim → Victim → Type 0
 SameVictim old new = (stealer_deque new.stealer ≡ stealer_deque old.stealer) × ((victim_view new).port ≡ (victim_view old).port)
+
+-- which deque it is
+abbrev pub Deque : Type 0
+Deque = RowsId × Global
+
+abbrev pub own_deque : Own → Deque
+own_deque own = worker_deque own.worker
+
+abbrev pub victim_deque : Victim → Deque
+victim_deque victim = stealer_deque victim.stealer

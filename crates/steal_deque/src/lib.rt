@@ -4,9 +4,13 @@
 mod own;
 mod owning;
 mod rule;
+mod settling;
 mod stealing;
+mod thief;
 mod victim;
 
 pub use own::Own;
 pub use rule::View;
-pub use victim::Victim;
+pub use settling::{Left, settle};
+pub use thief::Thief;
+pub(crate) use victim::Victim;

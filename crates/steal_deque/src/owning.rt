@@ -1,10 +1,15 @@
-ghost use Rattle.std.specs.Prelude.{◌≡◌, [], ◌∷◌, ◌++◌, OnOk, IfErr, OnErr, IfSome, IfNone};
-ghost use Rattle.steal_deque.specs.Ends.{exposed_by, pending_of, taken_by, own_view, SameOwn};
-ghost use Rattle.steal_deque.specs.History.{WasEmpty};
+ghost use Rattle.std.specs.Prelude.{◌≡◌, [], ◌∷◌, ◌++◌, ℕ, List, length, OnOk, IfOk, IfErr, OnErr, IfSome, IfNone};
+ghost use Rattle.steal_deque.specs.Ends.{exposed_by, pending_of, taken_by, own_view, own_deque, victim_view, victim_deque, SameOwn};
+ghost use Rattle.steal_deque.specs.History.{WasEmpty, owner_view, one_more, newcomer, joined_with, Settles};
 
-use crate::Own;
-use crate::rule::{Expose, Take};
-use cht_ids::TaskNo;
+use crate::rule::{Expose, OneMore, Rest, Returned, Take};
+use crate::{Own, Victim};
+use cht_ids::{Memory, TaskNo};
+use crossbeam_deque::Worker;
+use std::alloc::Global;
+
+// The slots with which a deque begins.
+const FIRST_ROOM: usize = 64;
 
 impl Own {
     /// Adds a number at the back. It comes back for want of memory; a greatest size of the deque counts as that.
@@ -28,5 +33,41 @@ impl Own {
         ensures none { IfNone result (WasEmpty (own_view self.old) × (own_view self.new ≡ own_view self.old)) }
     {
         self.worker.pop_as::<Take>()
+    }
+
+    // A deque with nothing in it, and with no thief.
+    pub(crate) fn open(alloc: Global) -> Result<Own, Memory>
+        ensures { IfOk result (λ own. own_view own ≡ owner_view) }
+    {
+        let worker = Worker::lifo_as(alloc, FIRST_ROOM)?;
+        Ok(Own { worker })
+    }
+
+    // One more thief's end.
+    pub(crate) fn hire(&mut self) -> Result<Victim, Memory>
+        requires { (own_view self.old).joined ≡ [] }
+        ensures same { own_deque self.new ≡ own_deque self.old }
+        ensures hired { IfOk result (λ victim. (own_view self.new ≡ one_more (own_view self.old)) × (victim_view victim ≡ newcomer (own_view self.old)) × (victim_deque victim ≡ own_deque self.old)) }
+    {
+        let stealer = self.worker.stealer()?;
+        let pass = self.worker.another::<OneMore>();
+        Ok(Victim { stealer, pass })
+    }
+
+    // A thief's end comes back, with what it knows.
+    pub(crate) fn take_back(&mut self, victim: Victim)
+        requires { victim_deque victim ≡ own_deque self.old }
+        ensures same { own_deque self.new ≡ own_deque self.old }
+        ensures joined { own_view self.new ≡ joined_with (own_view self.old) (victim_view victim) }
+    {
+        let Victim { stealer: _, pass } = victim;
+        self.worker.absorb::<Returned>(pass);
+    }
+
+    // How many numbers are left.
+    pub(crate) fn left(&mut self) -> usize
+        ensures { (left : List ℕ) × (length left ≡ result) × Settles (own_view self.old) left }
+    {
+        self.worker.len_as::<Rest>()
     }
 }
