@@ -62,10 +62,11 @@ never_both b f t = true≢false (sym t ∙ f)
 -- passes that are over stay so where a view changes that is not over
 over_set : (views : List View) (port : ℕ) (v w : View) (passes : List (ℕ × List ℕ)) → get_elem? views port ≡ some v → v.over ≡ false → AreOver views passes → AreOver (set views port w) passes
 over_set views port v w [] here live gone = tt
-over_set views port v w (p ∷ ps) here live gone =
-    ((λ u e. ⊎_elim (λ (x : (p.0 ≡ port) × (w ≡ u)). absurd (never_both v live (gone.0 v (ap (λ k. get_elem? views k) x.0 ∙ here))))
-        (λ (x : (p.0 ≢ port) × (get_elem? views p.0 ≡ some u)). gone.0 u x.1) (at_set views port p.0 w u e)),
-      over_set views port v w ps here live gone.1)
+over_set views port v w (p ∷ ps) here live gone = (
+  (λ u e. ⊎_elim (λ (x : (p.0 ≡ port) × (w ≡ u)). absurd (never_both v live (gone.0 v (ap (λ k. get_elem? views k) x.0 ∙ here))))
+      (λ (x : (p.0 ≢ port) × (get_elem? views p.0 ≡ some u)). gone.0 u x.1) (at_set views port p.0 w u e)),
+  over_set views port v w ps here live gone.1,
+)
 
 took_stays : (views : List View) (port : ℕ) (v : View) (steals : List Stolen) (xs : List ℕ) (passes : List (ℕ × List ℕ)) → get_elem? views port ≡ some v → v.over ≡ false → AreOver views passes → Took steals passes → Took (steals ++ steals_of port xs) passes
 took_stays views port v steals xs [] here live gone took = tt
@@ -77,14 +78,17 @@ owner_at : (steals : List Stolen) (items : List ℕ) (views : List View) (port :
 owner_at steals items views port v h here live zero_ = sym (h.named port v here live) ∙ zero_
 
 pub begins : Kept [] (owner_view ∷ [])
-begins = ([], record {
-  owner = λ v e. let is : owner_view ≡ v = some-injective owner_view v e in subst (λ (u : View). IsOwner [] [] (owner_view ∷ []) u) is
-      (record { port = refl; over = refl; made = refl; pending = refl; exposed = IsPermutation-refl []; took = tt; gone = tt });
-  named = elim [ zero ↦ λ v e live. ap (λ (u : View). u.port) (sym (some-injective owner_view v e)) | suc j ↦ λ v e live. absurd (some-ne-none v (sym e)) ];
-  took = elim [ zero ↦ λ v e live h. absurd (omega (arith, h)) | suc j ↦ λ v e live h. absurd (some-ne-none v (sym e)) ];
-  others = λ port h. refl;
-  never = refl;
-})
+begins = (
+  [],
+  record {
+    owner = λ v e. let is : owner_view ≡ v = some-injective owner_view v e in subst (λ (u : View). IsOwner [] [] (owner_view ∷ []) u) is
+        (record { port = refl; over = refl; made = refl; pending = refl; exposed = IsPermutation-refl []; took = tt; gone = tt });
+    named = elim [ zero ↦ λ v e live. ap (λ (u : View). u.port) (sym (some-injective owner_view v e)) | suc j ↦ λ v e live. absurd (some-ne-none v (sym e)) ];
+    took = elim [ zero ↦ λ v e live h. absurd (omega (arith, h)) | suc j ↦ λ v e live h. absurd (some-ne-none v (sym e)) ];
+    others = λ port h. refl;
+    never = refl;
+  },
+)
 
 -- a step of the owner that changes what is left and what it knows of that
 owner_steps : (steals : List Stolen) (items later : List ℕ) (views : List View) (port : ℕ) (v w : View) → IsHistory steals items views → get_elem? views port ≡ some v → v.port ≡ 0 → v.over ≡ false
@@ -114,8 +118,11 @@ exposes port v xs zero_ live items views (steals, h) here = let w : View = expos
     let first : port ≡ 0 = owner_at steals items views port v h here live zero_ in
     let mine : IsOwner steals items views v = h.owner v (ap (λ k. get_elem? views k) (sym first) ∙ here) in (
       w,
-      (steals, owner_steps steals items (items ++ xs) views port v w h here zero_ live refl refl refl refl (ap (λ l. l ++ xs) mine.pending ∙ append_assoc (numbers_of steals) items xs)
-          (λ p. subst (λ l. IsPermutation l (v.exposed ++ xs)) (append_assoc v.taken v.pending xs) (IsPermutation-append_left xs (v.taken ++ v.pending) v.exposed p))),
+      (
+        steals,
+        owner_steps steals items (items ++ xs) views port v w h here zero_ live refl refl refl refl (ap (λ l. l ++ xs) mine.pending ∙ append_assoc (numbers_of steals) items xs)
+            (λ p. subst (λ l. IsPermutation l (v.exposed ++ xs)) (append_assoc v.taken v.pending xs) (IsPermutation-append_left xs (v.taken ++ v.pending) v.exposed p)),
+      ),
       refl,
     )
 
@@ -125,10 +132,13 @@ takes port v zero_ live x items views (steals, h) here = let rest : List ℕ = n
     let mine : IsOwner steals (items ++ x ∷ []) views v = h.owner v (ap (λ k. get_elem? views k) (sym first) ∙ here) in
     let newest : v.pending ≡ rest ++ x ∷ [] = mine.pending ∙ sym (append_assoc (numbers_of steals) items (x ∷ [])) in (
       w,
-      (steals, owner_steps steals (items ++ x ∷ []) items views port v w h here zero_ live refl refl refl refl refl
-          (λ p. IsPermutation-trans ((v.taken ++ x ∷ []) ++ rest) (v.taken ++ v.pending) v.exposed
-              (subst (λ l. IsPermutation ((v.taken ++ x ∷ []) ++ rest) (v.taken ++ l)) (sym newest)
-                (subst (λ l. IsPermutation l (v.taken ++ (rest ++ x ∷ []))) (sym (append_assoc v.taken (x ∷ []) rest)) (IsPermutation-append_right v.taken (x ∷ [] ++ rest) (rest ++ x ∷ []) (IsPermutation-append_comm (x ∷ []) rest)))) p)),
+      (
+        steals,
+        owner_steps steals (items ++ x ∷ []) items views port v w h here zero_ live refl refl refl refl refl
+            (λ p. IsPermutation-trans ((v.taken ++ x ∷ []) ++ rest) (v.taken ++ v.pending) v.exposed
+            (subst (λ l. IsPermutation ((v.taken ++ x ∷ []) ++ rest) (v.taken ++ l)) (sym newest)
+            (subst (λ l. IsPermutation l (v.taken ++ (rest ++ x ∷ []))) (sym (append_assoc v.taken (x ∷ []) rest)) (IsPermutation-append_right v.taken (x ∷ [] ++ rest) (rest ++ x ∷ []) (IsPermutation-append_comm (x ∷ []) rest)))) p),
+      ),
       (rest, newest, refl),
     )
 
@@ -145,23 +155,26 @@ steals port v pos live xs items views some_ one (log, h) here = let w : View = s
     let back : get_elem? (set views port w) 0 ≡ get_elem? views 0 = set_else views port 0 w (λ e. omega (arith, e, thief)) in
     let oldest : numbers_of log ++ (xs ++ items) ≡ numbers_of more ++ items = sym (append_assoc (numbers_of log) xs items) ∙ ap (λ l. (numbers_of log ++ l) ++ items) (sym (numbers_one port xs)) ∙ ap (λ l. l ++ items) (sym (numbers_append log (steals_of port xs))) in (
       w,
-      (more, record {
-        owner = λ u e. let mine : IsOwner log (xs ++ items) views u = h.owner u (sym back ∙ e) in record {
-          port = mine.port;
-          over = mine.over;
-          made = mine.made ∙ sym (length_same views port w);
-          pending = mine.pending ∙ oldest;
-          exposed = mine.exposed;
-          took = took_stays views port v log xs u.joined here live mine.gone mine.took;
-          gone = over_set views port v w u.joined here live mine.gone;
-        };
-        named = every_set (λ j u. u.over ≡ false → u.port ≡ j) views port w (λ _. at) (λ j u ne e. h.named j u e);
-        took = every_set (λ j u. u.over ≡ false → 0 < j → by j more ≡ u.taken) views port w
-            (λ _ p. by_append port log (steals_of port xs) ∙ ap (λ l. l ++ by port (steals_of port xs)) (h.took port v here live p) ∙ ap (λ l. v.taken ++ l) (by_own port xs))
-            (λ j u ne e l p. by_stays j port log xs (λ s. ne (sym s)) ∙ h.took j u e l p);
-        others = λ j le. let n = length_same views port w in let inside = within views port v here in by_stays j port log xs (λ s. omega (arith, n, le, inside, s)) ∙ h.others j (omega (arith, n, le));
-        never = by_stays 0 port log xs (λ s. omega (arith, s, thief)) ∙ h.never;
-      }),
+      (
+        more,
+        record {
+          owner = λ u e. let mine : IsOwner log (xs ++ items) views u = h.owner u (sym back ∙ e) in record {
+            port = mine.port;
+            over = mine.over;
+            made = mine.made ∙ sym (length_same views port w);
+            pending = mine.pending ∙ oldest;
+            exposed = mine.exposed;
+            took = took_stays views port v log xs u.joined here live mine.gone mine.took;
+            gone = over_set views port v w u.joined here live mine.gone;
+          };
+          named = every_set (λ j u. u.over ≡ false → u.port ≡ j) views port w (λ _. at) (λ j u ne e. h.named j u e);
+          took = every_set (λ j u. u.over ≡ false → 0 < j → by j more ≡ u.taken) views port w
+              (λ _ p. by_append port log (steals_of port xs) ∙ ap (λ l. l ++ by port (steals_of port xs)) (h.took port v here live p) ∙ ap (λ l. v.taken ++ l) (by_own port xs))
+              (λ j u ne e l p. by_stays j port log xs (λ s. ne (sym s)) ∙ h.took j u e l p);
+          others = λ j le. let n = length_same views port w in let inside = within views port v here in by_stays j port log xs (λ s. omega (arith, n, le, inside, s)) ∙ h.others j (omega (arith, n, le));
+          never = by_stays 0 port log xs (λ s. omega (arith, s, thief)) ∙ h.never;
+        },
+      ),
       refl,
     )
 
@@ -179,12 +192,18 @@ forks port v zero_ live alone items views (log, h) here = let l : View = one_mor
     let same : length vs ≡ length views = length_same views port l in
     let longer : length (vs ++ r ∷ []) ≡ length views + 1 = length-append vs (r ∷ []) ∙ ap (λ k. k + 1) same in
     let own : IsOwner log items (vs ++ r ∷ []) l = record {
-      port = zero_; over = live; made = ap (λ k. k + 1) mine.made ∙ sym longer; pending = mine.pending; exposed = mine.exposed;
-      took = mine.took; gone = subst (λ j. AreOver (vs ++ r ∷ []) j) (sym alone) tt } in
+      port = zero_;
+      over = live;
+      made = ap (λ k. k + 1) mine.made ∙ sym longer;
+      pending = mine.pending;
+      exposed = mine.exposed;
+      took = mine.took;
+      gone = subst (λ j. AreOver (vs ++ r ∷ []) j) (sym alone) tt;
+    } in
     let at : get_elem? (vs ++ r ∷ []) port ≡ some l = at_longer vs (r ∷ []) port l (get_set views port v l here) in
     let every : (F : ℕ → View → Type 0) → F port l → F (length views) r → ((j : ℕ) (u : View) → get_elem? views j ≡ some u → F j u) → (j : ℕ) (u : View) → get_elem? (vs ++ r ∷ []) j ≡ some u → F j u
-        = λ F left right old j u e. ⊎_elim (λ (x : get_elem? vs j ≡ some u). every_set F views port l left (λ k y ne f. old k y f) j u x)
-            (λ (x : (j ≡ length vs) × (r ≡ u)). subst (λ (y : ℕ × View). F y.0 y.1) (λ i. (sym (x.0 ∙ same) i, x.1 i)) right) (at_end vs r u j e) in (
+    = λ F left right old j u e. ⊎_elim (λ (x : get_elem? vs j ≡ some u). every_set F views port l left (λ k y ne f. old k y f) j u x)
+    (λ (x : (j ≡ length vs) × (r ≡ u)). subst (λ (y : ℕ × View). F y.0 y.1) (λ i. (sym (x.0 ∙ same) i, x.1 i)) right) (at_end vs r u j e) in (
       log,
       record {
         owner = λ u e. subst (λ (y : View). IsOwner log items (vs ++ r ∷ []) y) (some-injective l u (sym at ∙ ap (λ k. get_elem? (vs ++ r ∷ []) k) first ∙ e)) own;
@@ -215,13 +234,18 @@ merges port v other w zero_ live pos thief items views (log, h) here two there =
     let named : w.port ≡ other = h.named other w was thief in
     let long : length us ≡ length views = length_same vs other spent ∙ length_same views port b in
     let own : IsOwner log items us b = record {
-      port = zero_; over = live; made = mine.made ∙ sym long; pending = mine.pending; exposed = mine.exposed;
+      port = zero_;
+      over = live;
+      made = mine.made ∙ sym long;
+      pending = mine.pending;
+      exposed = mine.exposed;
       took = took_more log v.joined (w.port, w.taken) mine.took (ap (λ k. by k log) named ∙ h.took other w was thief (omega (arith, pos, named)));
       gone = over_more us v.joined (w.port, w.taken) (over_spent vs other v.joined (over_set views port v b v.joined here live mine.gone))
-          (λ u e. ap (λ (y : View). y.over) (sym (some-injective spent u (sym (get_set vs other w spent there) ∙ ap (λ k. get_elem? us k) (sym named) ∙ e)))) } in
+          (λ u e. ap (λ (y : View). y.over) (sym (some-injective spent u (sym (get_set vs other w spent there) ∙ ap (λ k. get_elem? us k) (sym named) ∙ e))));
+    } in
     let at : get_elem? us port ≡ some b = set_else vs other port spent (λ e. two (sym e)) ∙ get_set views port v b here in
     let every : (F : ℕ → View → Type 0) → F port b → F other spent → ((j : ℕ) (u : View) → get_elem? views j ≡ some u → F j u) → (j : ℕ) (u : View) → get_elem? us j ≡ some u → F j u
-        = λ F left right old. every_set F vs other spent right (λ j u _ e. every_set F views port b left (λ k y _ f. old k y f) j u e) in (
+    = λ F left right old. every_set F vs other spent right (λ j u _ e. every_set F views port b left (λ k y _ f. old k y f) j u e) in (
       log,
       record {
         owner = λ u e. subst (λ (y : View). IsOwner log items us y) (some-injective b u (sym at ∙ ap (λ k. get_elem? us k) first ∙ e)) own;

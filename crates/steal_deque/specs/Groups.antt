@@ -1,10 +1,10 @@
 -- The deques of a group: what a thief reaches, and what the owners know at the end.
-use Rattle.std.specs.Prelude.{◌≡◌, ℕ, ◌+◌, List, [], ◌∷◌, map, length, slice_get, slice_index_or, Some}
+use Rattle.std.specs.Prelude.{◌≡◌, ℕ, ◌+◌, false, replicate, List, [], ◌∷◌, map, length, slice_get, slice_index_or, Some}
 use Rattle.steal_deque.specs.declared.rule.View.{View}
 use Rattle.steal_deque.specs.declared.own.Own.{Own}
 use Rattle.steal_deque.specs.declared.victim.Victim.{Victim}
 use Rattle.steal_deque.specs.declared.thief.Thief.{Thief}
-use Rattle.steal_deque.specs.History.{spent, joined_with, Settles}
+use Rattle.steal_deque.specs.History.{spent, joined_with, newcomer, Settles}
 use Rattle.steal_deque.specs.Ends.{own_view, own_deque, victim_view, victim_deque, Deque}
 
 -- what a thief knows of each deque, by worker
@@ -65,10 +65,10 @@ returned_all [] others = []
 returned_all (view ∷ views) [] = view ∷ views
 returned_all (view ∷ views) (other ∷ others) = joined_with view other ∷ returned_all views others
 
--- what the owners know once these thieves are back
+-- what the owners know once these thieves are back, the last of them first
 abbrev pub returned_by : List View → List (List View) → List View
 returned_by views [] = views
-returned_by views (thief ∷ thieves) = returned_by (returned_all views thief) thieves
+returned_by views (thief ∷ thieves) = returned_all (returned_by views thieves) thief
 
 -- how many numbers these lists have
 abbrev pub total : List (List ℕ) → ℕ
@@ -81,3 +81,12 @@ AllSettle [] [] = Unit {0}
 AllSettle [] (left ∷ lefts) = ⊥
 AllSettle (view ∷ views) [] = ⊥
 AllSettle (view ∷ views) (left ∷ lefts) = Settles view left × AllSettle views lefts
+
+-- the view of an owner with so many thieves, who did nothing yet
+abbrev pub owner_with : ℕ → View
+owner_with thieves = record { port = 0; made = thieves; exposed = []; pending = []; taken = []; joined = []; over = false }
+
+-- no number was exposed or taken yet
+abbrev pub AreNew : List Own → List Thief → Type 0
+AreNew owns thieves = (map own_view owns ≡ replicate (length owns) (owner_with (length owns)))
+    × ((t : ℕ) (thief : Thief) → slice_get thieves t ≡ Some thief → views_of thief ≡ replicate (length owns) (newcomer (owner_with t)))

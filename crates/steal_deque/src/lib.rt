@@ -1,6 +1,7 @@
 //! Deques of task numbers, one for each worker: the owner exposes and takes at one end, thieves steal at the other.
 #![tactic(auto)]
 
+mod opening;
 mod own;
 mod owning;
 mod rule;
@@ -9,6 +10,7 @@ mod stealing;
 mod thief;
 mod victim;
 
+pub use opening::deques;
 pub use own::Own;
 pub use rule::View;
 pub use settling::{Left, settle};

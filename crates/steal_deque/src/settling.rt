@@ -18,7 +18,8 @@ pub fn settle(owns: List<Own>, thieves: List<Thief>) -> Left
     ensures { (lefts : List (List ℕ)) × AllSettle (returned_by (map own_view owns) (map views_of thieves)) lefts × (result.numbers ≡ min (total lefts) (2 ^ 64 - 1)) }
 {
     let mut owns = owns.into_vec();
-    for thief in thieves.into_vec() {
+    let mut thieves = thieves.into_vec();
+    while let Some(thief) = thieves.pop() {
         give_back(&mut owns, thief);
     }
     count_left(owns)
