@@ -1,0 +1,5 @@
+mod Entries
+mod Steps
+mod Calls
+mod Opening
+mod Gathering
