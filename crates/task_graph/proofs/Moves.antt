@@ -23,7 +23,9 @@ use Rattle.task_graph.proofs.Chains.{not_none, same_key, row_with}
 use Rattle.task_graph.proofs.Weaving.{same_some, same_spot, row_is, link_is, none_or_some}
 use Rattle.task_graph.proofs.Tying.{map_behind}
 use Rattle.task_graph.proofs.Changes.{get_changed}
-use Rattle.task_graph.proofs.Awaiting.{link_behind}
+use Rattle.task_graph.proofs.Awaiting.{first_link, no_input}
+use Rattle.task_graph.proofs.Marking.{input_is}
+use Rattle.task_graph.proofs.Writing.{awaits_behind}
 use Rattle.task_graph.proofs.Runs.{task_is, task_there}
 
 set_set : {X : Type 0} (xs : List X) (j : ℕ) (v w : X) → set (set xs j v) j w ≡ set xs j w
@@ -181,3 +183,75 @@ written_twice {K} start middle now t j a b one two =
     λ q apart. ap (λ (g : Graph Ref K). task_at g q) both ∙ twice_other start t j a b q apart,
     λ u is. ap (λ (g : Graph Ref K). task_at g t) both ∙ twice_here start t j a b u is,
     )
+
+-- a task of a caller has an entry
+pub entry_of_caller : {K : Type 0} (parts : Parts K) (q c : ℕ) → caller_of (graph_of parts) q ≡ Some c → (e : Entry K) × (entries_at parts.entries q ≡ Some e) × (e.caller ≡ c)
+entry_of_caller {K} parts q c is =
+    let u = map_behind (λ (u : Unfinished Ref K). u.caller) (task_at (graph_of parts) q) c is in
+    let e = map_behind shown_entry (entries_at parts.entries q) u.0 (sym (task_is parts q) ∙ u.1) in
+    (e.0, e.1, ap (λ (x : Unfinished Ref K). x.caller) e.2 ∙ u.2)
+
+module _ {K : Type 0} (parts : Parts K) (task to : ℕ) (e : Entry K) (whole : IsWhole parts) (is : entries_at parts.entries task ≡ Some e) (spot : Spot) (first : e.first ≡ Some spot) where
+  pub the_link : (link : Link) × (link_at (entries_at parts.entries) spot ≡ Some link) × (link.task ≡ task)
+  the_link = first_link parts task e whole is spot first
+
+  pub the_first : IsFirst (head_at (entries_at parts.entries)) (link_at (entries_at parts.entries)) spot
+  the_first = (the_link.0, head_of e, the_link.1, ap (head_at (entries_at parts.entries)) the_link.2 ∙ ap (option_map head_of) is, first)
+
+  pub movable : (c : ℕ) → e.caller ≡ c → (other : Entry K) → entries_at parts.entries to ≡ Some other → other.caller ≡ c → IsMovable parts spot to
+  movable c caller other there same = record {
+    first = the_first;
+    there = λ own that own_is that_is.
+    let h = whole.woven.home spot the_link.0 the_link.1 in
+    let one = same_some h.0 own (sym h.2 ∙ own_is) in
+    let two = same_some h.1 (head_of e) (sym h.3 ∙ ap (head_at (entries_at parts.entries)) the_link.2 ∙ ap (option_map head_of) is) in
+    let three = same_some (head_of other) that (sym (ap (option_map head_of) there) ∙ that_is) in
+    ap (λ (x : Head). x.caller) (sym three) ∙ same ∙ sym caller ∙ ap (λ (x : Head). x.caller) (sym two) ∙ h.4 ∙ ap (λ (x : Head). x.caller) one;
+    other = (head_of other, ap (option_map head_of) there);
+  }
+
+  pub awaited_place : (link : Link) → link_at (entries_at parts.entries) spot ≡ Some link → (u : Unfinished Ref K) → task_at (graph_of parts) spot.task ≡ Some u → slice_get u.inputs spot.place ≡ Some (Awaits task link.number)
+  awaited_place link there u at =
+      let one = same_some the_link.0 link (sym the_link.1 ∙ there) in
+      sym (ap (λ (o : Option (Unfinished Ref K)). elim o as (λ _. Option (Input Ref)) [ None ↦ None | Some unfinished ↦ slice_get unfinished.inputs spot.place ]) at)
+      ∙ input_is parts spot link (awaits_behind (place_at (entries_at parts.entries) spot) link there)
+      ∙ ap (λ k. Some (waiting k link.number)) (ap (λ (l : Link). l.task) (sym one) ∙ the_link.2)
+
+  pub own_there : (u : Unfinished Ref K) × (task_at (graph_of parts) spot.task ≡ Some u)
+  own_there =
+      let h = whole.woven.home spot the_link.0 the_link.1 in
+      let b = map_behind head_of (entries_at parts.entries spot.task) h.0 h.2 in
+      (shown_entry b.0, task_there parts spot.task b.0 b.1)
+
+  nearer_spot : (new : Parts K) (step : IsMoved parts new spot to) → IsWhole new → (task ≡ to → ⊥) → (o : Option Spot) → Leads (row_of (link_at (entries_at new.entries))) task None o → rest_from (link_at (entries_at new.entries)) o < 2 ^ 128 - step.link.number
+  nearer_spot new step kept apart None leads = let small = whole.woven.small spot step.link step.was in omega arith
+  nearer_spot new step kept apart (Some p) leads =
+      let l = link_is (link_at (entries_at new.entries)) p task leads.0 leads.1 in
+      let not_it : p ≡ spot → ⊥ = λ same. apart (sym l.2 ∙ ap (λ (x : Link). x.task) (same_some l.0 step.here.0 (sym l.1 ∙ ap (link_at (entries_at new.entries)) same ∙ step.here.1)) ∙ step.here.2) in
+      let was = link_is (link_at (entries_at parts.entries)) p task leads.0 (sym (step.rest p not_it) ∙ leads.1) in
+      let front : Leads (row_of (link_at (entries_at parts.entries))) task None (Some spot) = subst (Leads (row_of (link_at (entries_at parts.entries))) task None) first (whole.woven.firsts task (head_of e) (ap (option_map head_of) is)) in
+      let key = (same_key (sym front.1 ∙ row_is (link_at (entries_at parts.entries)) spot step.link step.was)).1 in
+      let least = front.3 p leads.0 (sym (step.rest p not_it) ∙ leads.1) tt in
+      let differs : leads.0 ≡ step.link.number → ⊥ = λ same. not_it (whole.woven.apart p spot was.0 step.link was.1 step.was (was.3 ∙ same)) in
+      let k = leads.0 in
+      let number = l.3 in
+      let small = whole.woven.small spot step.link step.was in
+      let top = kept.woven.small p l.0 l.1 in
+      subst (λ o. rest_in o < 2 ^ 128 - step.link.number) (sym l.1) (omega arith)
+
+  nearer_first : (new : Parts K) (step : IsMoved parts new spot to) → IsWhole new → (task ≡ to → ⊥) → (o : Option (Entry K)) → entries_at new.entries task ≡ o → rest_after (link_at (entries_at new.entries)) o < 2 ^ 128 - step.link.number
+  nearer_first new step kept apart None at = let small = whole.woven.small spot step.link step.was in omega arith
+  nearer_first new step kept apart (Some f) at = nearer_spot new step kept apart f.first (kept.woven.firsts task (head_of f) (ap (option_map head_of) at))
+
+  -- and nearer to the end
+  pub nearer_end : (new : Parts K) → IsMoved parts new spot to → IsWhole new → (task ≡ to → ⊥) → rest_first (entries_at new.entries) task < rest_first (entries_at parts.entries) task
+  nearer_end new step kept apart =
+      subst (λ o. rest_first (entries_at new.entries) task < rest_after (link_at (entries_at parts.entries)) o) (sym is)
+      (subst (λ o. rest_first (entries_at new.entries) task < rest_from (link_at (entries_at parts.entries)) o) (sym first)
+      (subst (λ o. rest_first (entries_at new.entries) task < rest_in o) (sym step.was) (nearer_first new step kept apart (entries_at new.entries task) refl)))
+
+-- where nothing awaits a task, no input does
+pub none_awaits : {K : Type 0} (parts : Parts K) (task : ℕ) (e : Entry K) → IsWhole parts → entries_at parts.entries task ≡ Some e → e.first ≡ None
+    → (s j number : ℕ) (u : Unfinished Ref K) → task_at (graph_of parts) s ≡ Some u → slice_get u.inputs j ≡ Some (Awaits task number) → ⊥
+none_awaits {K} parts task e whole is first s j number u there at =
+    no_input parts task e whole is first s j number (ap (λ (o : Option (Unfinished Ref K)). elim o as (λ _. Option (Input Ref)) [ None ↦ None | Some unfinished ↦ slice_get unfinished.inputs j ]) there ∙ at)
