@@ -6,8 +6,9 @@ use Rattle.std.specs.FinMap as map
 use Rattle.std.specs.Ordering.{nat_cmp}
 use Rattle.cht_ids.specs.declared.refs.Ref.{Ref}
 use Rattle.cht_ids.specs.declared.refs.Ref.TheVariants.{Null}
-use Rattle.task_states.specs.States.{Input, Known, Awaits, Unfinished, Graph, task_at, caller_of}
-use Rattle.task_states.specs.Steps.{with_task, redirected, inputs_redirected}
+use Rattle.std.proofs.lemmas.Bool.Decides.{nat_tests}
+use Rattle.task_states.specs.States.{Input, Known, Awaits, Unfinished, Graph, task_at, caller_of, asked_of}
+use Rattle.task_states.specs.Steps.{with_task, redirected, inputs_redirected, with_asked}
 use Rattle.task_states.specs.Maps.{put_at, each_changed}
 use Rattle.task_states.proofs.Maps.{same_or_not, test_same, test_apart, same_maps, get-each_changed}
 use Rattle.task_graph.specs.declared.entries.Entry.{Entry}
@@ -15,7 +16,7 @@ use Rattle.task_graph.specs.declared.entries.Link.{Link}
 use Rattle.task_graph.specs.declared.entries.Spot.{Spot}
 use Rattle.task_graph.specs.declared.parts.Parts.{Parts}
 use Rattle.task_graph.specs.Inside.{entries_at, shown_entry, place_at}
-use Rattle.task_graph.specs.Weave.{Head, Leads, row_of, head_at, head_of, link_at, IsFirst, rest_in, rest_from, rest_after, rest_first}
+use Rattle.task_graph.specs.Weave.{Head, Leads, row_of, head_at, head_of, link_at, IsFirst, IsUnused, rest_in, rest_from, rest_after, rest_first}
 use Rattle.task_graph.specs.Graphs.{graph_of, IsWhole}
 use Rattle.task_graph.specs.Contents.{AreOfOneCaller}
 use Rattle.task_graph.specs.Moving.{IsInputMoved, IsTaskMoved, AreMoved, IsMovable, IsMoved}
@@ -255,3 +256,66 @@ pub none_awaits : {K : Type 0} (parts : Parts K) (task : ℕ) (e : Entry K) → 
     → (s j number : ℕ) (u : Unfinished Ref K) → task_at (graph_of parts) s ≡ Some u → slice_get u.inputs j ≡ Some (Awaits task number) → ⊥
 none_awaits {K} parts task e whole is first s j number u there at =
     no_input parts task e whole is first s j number (ap (λ (o : Option (Unfinished Ref K)). elim o as (λ _. Option (Input Ref)) [ None ↦ None | Some unfinished ↦ slice_get unfinished.inputs j ]) there ∙ at)
+
+swap_tests : {X : Type 0} (s t : Bool) → (s ≡ true → t ≡ true → ⊥) → (x y z : X) → cond s x (cond t y z) ≡ cond t y (cond s x z)
+swap_tests true true never x y z = absurd (never refl refl)
+swap_tests true false never x y z = refl
+swap_tests false t never x y z = refl
+
+-- changes of two tasks, in either order
+pub either_order : {K : Type 0} (graph : Graph Ref K) (a b : ℕ) (f h : Unfinished Ref K → Unfinished Ref K) → (a ≡ b → ⊥) → with_task (with_task graph a f) b h ≡ with_task (with_task graph b h) a f
+either_order {K} graph a b f h apart =
+    ap (λ tasks. record graph { tasks = tasks }) (same_maps (with_task (with_task graph a f) b h).tasks (with_task (with_task graph b h) a f).tasks (λ q.
+    get_changed (with_task graph a f).tasks b q h
+    ∙ ap (λ o. cond (nat_eq q b) (option_map h o) (map.get (with_task graph a f).tasks q)) (get_changed graph.tasks a b f ∙ ap (λ t. cond t (option_map f (map.get graph.tasks a)) (map.get graph.tasks b)) (test_apart b a (λ same. apart (sym same))))
+    ∙ ap (λ o. cond (nat_eq q b) (option_map h (map.get graph.tasks b)) o) (get_changed graph.tasks a q f)
+    ∙ swap_tests (nat_eq q b) (nat_eq q a) (λ one two. let same_b : q ≡ b = grind (arith, nat_tests) in let same_a : q ≡ a = grind (arith, nat_tests) in apart (sym same_a ∙ same_b)) (option_map h (map.get graph.tasks b)) (option_map f (map.get graph.tasks a)) (map.get graph.tasks q)
+    ∙ sym (ap (λ o. cond (nat_eq q a) (option_map f (map.get graph.tasks a)) o) (get_changed graph.tasks b q h))
+    ∙ sym (ap (λ o. cond (nat_eq q a) (option_map f o) (map.get (with_task graph b h).tasks q)) (get_changed graph.tasks b a h ∙ ap (λ t. cond t (option_map h (map.get graph.tasks b)) (map.get graph.tasks a)) (test_apart a b apart)))
+    ∙ sym (get_changed (with_task graph b h).tasks a q f)))
+
+caller_each : {K : Type 0} (task to : ℕ) (o : Option (Unfinished Ref K)) → option_map (λ (u : Unfinished Ref K). u.caller) (option_map (λ (u : Unfinished Ref K). record u { inputs = each (redirected task to) u.inputs }) o) ≡ option_map (λ (u : Unfinished Ref K). u.caller) o
+caller_each task to None = refl
+caller_each task to (Some u) = refl
+
+asked_each : {K : Type 0} (task to : ℕ) (o : Option (Unfinished Ref K)) → ◌≡◌ {A = Option ℕ} (elim (option_map (λ (u : Unfinished Ref K). record u { inputs = each (redirected task to) u.inputs }) o) as (λ _. Option ℕ) [ None ↦ None | Some u ↦ u.asked ]) (elim o as (λ _. Option ℕ) [ None ↦ None | Some u ↦ u.asked ])
+asked_each task to None = refl
+asked_each task to (Some u) = refl
+
+-- a task of a caller is there
+pub there_of_caller : {K : Type 0} (graph : Graph Ref K) (q c : ℕ) → caller_of graph q ≡ Some c → IsSome (task_at graph q)
+there_of_caller {K} graph q c is = let u = map_behind (λ (u : Unfinished Ref K). u.caller) (task_at graph q) c is in subst IsSome (sym u.1) refl
+
+-- a caller's task stays one where inputs move
+pub caller_redirected : {K : Type 0} (graph : Graph Ref K) (task to q : ℕ) → caller_of (inputs_redirected graph task to) q ≡ caller_of graph q
+caller_redirected {K} graph task to q =
+    ap (option_map (λ (u : Unfinished Ref K). u.caller)) (get-each_changed (λ u. record u { inputs = each (redirected task to) u.inputs }) graph.tasks q) ∙ caller_each task to (task_at graph q)
+
+pub asked_redirected : {K : Type 0} (graph : Graph Ref K) (task to q : ℕ) (number : ℕ) → asked_of graph q ≡ Some number → asked_of (inputs_redirected graph task to) q ≡ Some number
+asked_redirected {K} graph task to q number is =
+    ap (λ (o : Option (Unfinished Ref K)). elim o as (λ _. Option ℕ) [ None ↦ None | Some u ↦ u.asked ]) (get-each_changed (λ u. record u { inputs = each (redirected task to) u.inputs }) graph.tasks q) ∙ asked_each task to (task_at graph q) ∙ is
+
+-- what is asked of a task
+pub asked_there : {K : Type 0} (parts : Parts K) (q : ℕ) (e : Entry K) → entries_at parts.entries q ≡ Some e → asked_of (graph_of parts) q ≡ e.asked
+asked_there {K} parts q e is = ap (λ (o : Option (Unfinished Ref K)). elim o as (λ _. Option ℕ) [ None ↦ None | Some u ↦ u.asked ]) (task_there parts q e is)
+
+asked_back : {K : Type 0} (o : Option (Entry K)) (number : ℕ) → ◌≡◌ {A = Option ℕ} (elim (option_map shown_entry o) as (λ _. Option ℕ) [ None ↦ None | Some u ↦ u.asked ]) (Some number) → (e : Entry K) × (o ≡ Some e) × (e.asked ≡ Some number)
+asked_back None number is = absurd (not_none None number refl is)
+asked_back (Some e) number is = (e, refl, is)
+
+-- no input awaits under the number of an asked output
+pub unused_asked : {K : Type 0} (parts : Parts K) (q number : ℕ) → IsWhole parts → asked_of (graph_of parts) q ≡ Some number → IsUnused (link_at (entries_at parts.entries)) number
+unused_asked {K} parts q number whole is p l there same =
+    let b = asked_back (entries_at parts.entries q) number (sym (ap (λ (o : Option (Unfinished Ref K)). elim o as (λ _. Option ℕ) [ None ↦ None | Some u ↦ u.asked ]) (task_is parts q)) ∙ is) in
+    whole.woven.asked_apart p l q (head_of b.0) number there (ap (option_map head_of) b.1) b.2 same
+
+caller_cond : {K : Type 0} (b : Bool) (n : ℕ) (x y : Option (Unfinished Ref K)) → (b ≡ true → x ≡ y) → option_map (λ (u : Unfinished Ref K). u.caller) (cond b (option_map (λ (u : Unfinished Ref K). record u { asked = Some n }) x) y) ≡ option_map (λ (u : Unfinished Ref K). u.caller) y
+caller_cond true n None y same = ap (option_map (λ u. u.caller)) (same refl)
+caller_cond true n (Some u) y same = ap (option_map (λ u. u.caller)) (same refl)
+caller_cond false n x y same = refl
+
+-- asking leaves callers
+pub caller_asked : {K : Type 0} (graph : Graph Ref K) (t number q : ℕ) → caller_of (with_asked graph t number) q ≡ caller_of graph q
+caller_asked {K} graph t number q =
+    ap (option_map (λ (u : Unfinished Ref K). u.caller)) (get_changed graph.tasks t q (λ u. record u { asked = Some number }))
+    ∙ caller_cond (nat_eq q t) number (map.get graph.tasks t) (map.get graph.tasks q) (λ test. let same : t ≡ q = grind (arith, nat_tests) in ap (map.get graph.tasks) same)

@@ -251,7 +251,7 @@ impl<K: Copy> Parts<K> {
     pub fn ask(&mut self, task: u128, number: u128)
         requires whole { IsWhole self.old }
         requires there { IsSome (task_at (graph_of self.old) task) }
-        requires free { IsFree (graph_of self.old) number }
+        requires free { IsUnused (link_at (entries_at self.old.entries)) number }
         ensures whole { IsWhole self.new }
         ensures graph { graph_of self.new ≡ with_asked (graph_of self.old) task number }
         ensures size { IsSameSize self.old.entries self.new.entries }
@@ -484,8 +484,8 @@ impl<K: Copy> Parts<K> {
         let entry = self.entries.get(task);
         self.move_all(task, to);
         if let Some(number) = entry.asked {
-            self.unask(task);
             self.ask(to, number);
+            self.unask(task);
         }
     }
 }

@@ -19,7 +19,7 @@ pub revise-requires-clause-revised : goal.revise-requires-clause-revised
 revise-requires-clause-revised g c = λ entry is.
     subst (λ e. IsRevised c.args.self.now c.args.task e c.get-entry.result.runner (Some c.args.number) c.get-row.result.running) (same_some c.get-entry.result entry (sym c.get-entry.ensures ∙ is))
     (ask_revised c.args.self.now c.args.task c.get-entry.result c.get-row.result (Some c.args.number) c.requires.whole c.get-entry.ensures c.get-row.ensures
-    (λ n same. subst (λ m. IsUnused (link_at (entries_at c.args.self.now.entries)) m) (same_some c.args.number n same) (unused_of c.args.self.now c.args.number c.requires.free)))
+    (λ n same. subst (λ m. IsUnused (link_at (entries_at c.args.self.now.entries)) m) (same_some c.args.number n same) c.requires.free))
 
 pub returns-clause-graph : goal.returns-clause-graph
 returns-clause-graph g c =
