@@ -1,3 +1,4 @@
+mod Additions
 mod Awaiting
 mod Besides
 mod Chains

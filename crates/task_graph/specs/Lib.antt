@@ -1,3 +1,4 @@
+pub mod Adding
 pub mod Callers
 pub mod Contents
 pub mod Graphs

@@ -328,8 +328,8 @@ impl<K: Copy> Parts<K> {
         self.entries.settle(spot, r)
     }
 
-    // An input that does not await comes to await a task of the same caller, under a number that no awaiter has.
-    fn join(&mut self, spot: Spot, task: u128, number: u128)
+    /// An input that does not await comes to await a task of the same caller, under a number that no awaiter has.
+    pub fn join(&mut self, spot: Spot, task: u128, number: u128)
         requires whole { IsWhole self.old }
         requires there { IsSome (place_at (entries_at self.old.entries) spot) }
         requires free { link_at (entries_at self.old.entries) spot ≡ None }
@@ -396,8 +396,8 @@ impl<K: Copy> Parts<K> {
         }
     }
 
-    // One more task that awaits nothing yet.
-    fn place_idle(&mut self, task: u128, entry: Entry<K>)
+    /// One more task that awaits nothing yet.
+    pub fn place_idle(&mut self, task: u128, entry: Entry<K>)
         requires whole { IsWhole self.old }
         requires caller { entry.caller < 64 }
         requires new { entries_at self.old.entries task ≡ None }
