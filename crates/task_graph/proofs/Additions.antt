@@ -257,3 +257,19 @@ earlier_at graph (Known r ∷ inputs) (suc i) zero task other number free is low
 earlier_at graph (Awaits t n ∷ inputs) (suc i) zero task other number free is low was = none_at n inputs i task free.1 (is ∙ ap (λ m. Some (Awaits task m)) (sym (slot_number (same_some (Awaits t n) (Awaits other number) was))))
 earlier_at graph (Known r ∷ inputs) (suc i) (suc k) task other number free is low was = earlier_at graph inputs i k task other number free is (omega arith) was
 earlier_at graph (Awaits t n ∷ inputs) (suc i) (suc k) task other number free is low was = earlier_at graph inputs i k task other number free.2 is (omega arith) was
+
+pub get_at : {X : Type 0} (xs : List X) (i : ℕ) (d : X) → i < length xs → slice_get xs i ≡ Some (get_or xs i d)
+get_at [] i d low = absurd (omega arith)
+get_at (x ∷ xs) zero d low = refl
+get_at (x ∷ xs) (suc i) d low = get_at xs i d (omega arith)
+
+pub slot_cases : (x : Slot) → ((r : Ref) × (x ≡ Known r)) ⊎ ((task : ℕ) × (number : ℕ) × (x ≡ Awaits task number))
+slot_cases (Known r) = inl (r, refl)
+slot_cases (Awaits task number) = inr (task, number, refl)
+
+none_back : {K : Type 0} (o : Option (Entry K)) → option_map shown_entry o ≡ None → o ≡ None
+none_back None is = refl
+none_back (Some e) is = absurd (not_none (Some (shown_entry e)) (shown_entry e) is refl)
+
+pub none_entry : {K : Type 0} (parts : Parts K) (q : ℕ) → task_at (graph_of parts) q ≡ None → entries_at parts.entries q ≡ None
+none_entry parts q is = none_back (entries_at parts.entries q) (sym (task_is parts q) ∙ is)

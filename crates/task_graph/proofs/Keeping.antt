@@ -162,7 +162,7 @@ module _ {K : Type 0} (old new : Parts K) (middle : Middle K) (t : ℕ) (entry :
   placed_other : (q : ℕ) → (q ≡ t → ⊥) → middle q ≡ entries_at old.entries q
   placed_other q apart = inserted.2 q ∙ ap (λ b. cond b (Some (record entry { before = inserted.0; after = inserted.1 })) (entries_at old.entries q)) (test_apart q t apart)
 
-  link_was : (p : Spot) (l : Link) → link_at (entries_at new.entries) p ≡ Some l → (p.task ≡ t → ⊥) × (link_at (entries_at old.entries) p ≡ Some l)
+  pub link_was : (p : Spot) (l : Link) → link_at (entries_at new.entries) p ≡ Some l → (p.task ≡ t → ⊥) × (link_at (entries_at old.entries) p ≡ Some l)
   unfolding placed
   link_was p l is =
       let at : link_at middle p ≡ Some l = sym (beside.links p) ∙ is in

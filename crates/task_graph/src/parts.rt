@@ -16,6 +16,7 @@ ghost use Rattle.task_graph.specs.Moving.{IsMovable, IsMoved};
 ghost use Rattle.task_states.specs.declared.states.Awaiter.{Awaiter as AnyAwaiter};
 ghost use Rattle.std.specs.Prelude.{Option};
 ghost use Rattle.task_graph.specs.declared.entries.Spot.{Spot as AnySpot};
+ghost use Rattle.task_graph.specs.declared.entries.Link.{Link as AnyLink};
 ghost use Rattle.task_graph.specs.Inside.{place_at};
 ghost use Rattle.task_states.specs.declared.states.TaskStatus.TheVariants.{Ready, Running};
 ghost use Rattle.task_states.specs.States.{task_at, AwaitsNothing};
@@ -405,6 +406,7 @@ impl<K: Copy> Parts<K> {
         requires room { 0 < room_of self.old.entries }
         ensures whole { IsWhole self.new }
         ensures graph { graph_of self.new ≡ added (graph_of self.old) task entry.caller entry.kind (shown_entry entry).inputs }
+        ensures links { (p : AnySpot) (l : AnyLink) → link_at (entries_at self.new.entries) p ≡ Some l → link_at (entries_at self.old.entries) p ≡ Some l }
         ensures len { hash_map_len self.new.entries.tasks ≡ hash_map_len self.old.entries.tasks + 1 }
         ensures room { room_of self.old.entries ≤ room_of self.new.entries + 1 }
     {

@@ -12,8 +12,8 @@ returns-clause-bare g c = record {
   first = refl;
   last = refl;
   short = c.requires;
-  known = λ place. ap (λ xs. link_of (slice_get xs place)) ? ∙ no_link c.args.inputs.now place;
+  known = λ place. ap (λ xs. link_of (slice_get xs place)) c.known_places.ensures ∙ no_link c.args.inputs.now place;
 }
 
 pub returns-clause-inputs : goal.returns-clause-inputs
-returns-clause-inputs g c = ap (each shown_place) ? ∙ shown_bare c.args.inputs.now
+returns-clause-inputs g c = ap (each shown_place) c.known_places.ensures ∙ shown_bare c.args.inputs.now
