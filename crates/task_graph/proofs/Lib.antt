@@ -9,6 +9,7 @@ mod Counting
 mod Keeping
 mod Marking
 mod Moves
+mod Opening
 mod Orders
 mod Queues
 mod Revising

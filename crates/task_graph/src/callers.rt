@@ -20,7 +20,8 @@ pub(crate) struct Callers {
 impl Callers {
     /// No caller has a task, and none is stopped.
     pub fn new() -> Callers
-        ensures { (caller : ℕ) → caller < 64 → caller_at result caller ≡ Some (record { first = None; last = None; running = 0; stopped = false }) }
+        ensures rows { (caller : ℕ) → caller < 64 → caller_at result caller ≡ Some (record { first = None; last = None; running = 0; stopped = false }) }
+        ensures len { length result.rows ≡ 64 }
     {
         let none = Caller {
             first: None,

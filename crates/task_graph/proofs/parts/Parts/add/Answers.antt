@@ -1,5 +1,8 @@
-use Rattle.std.proofs.Common.{◌≡◌, ◌≤◌, ◌+◌, ℕ, Some, None, ap, sym, subst, ◌∙◌, arith, length, refl}
+use Rattle.std.proofs.Common.{◌≡◌, ◌≤◌, ◌+◌, ℕ, Some, None, ap, sym, subst, ◌∙◌, arith, length, refl, inl, inr, get_or}
 use Rattle.std.specs.HashMap.{hash_map_len}
+use Rattle.cht_ids.specs.declared.refs.Ref.TheVariants.{Null}
+use Rattle.task_states.specs.declared.states.Slot.TheVariants.{Known}
+use Rattle.task_graph.specs.declared.parts.Parts.{Parts}
 use Rattle.task_states.specs.States.{Graph}
 use Rattle.task_states.specs.Steps.{added}
 use Rattle.task_graph.specs.Inside.{room_of, shown_entry}
@@ -51,15 +54,17 @@ loop-place-preserved g c =
     elim c.match-slot.branch [
       | in-Awaits w ↦
         let at = get_at c.args.inputs.now c.loop-place.place _ c.loop-place-test.true ∙ ap Some w.in-Awaits.is in
-        let size = w.join.ensures.size in (
+        let size = w.join.ensures.size in
+        subst (λ (self : Parts g.row.K.Denot). IsAdding c.args.self.now self c.args.task c.args.caller c.args.kind c.args.inputs.now (c.loop-place.place + 1) × (hash_map_len self.entries.tasks ≡ hash_map_len c.args.self.now.entries.tasks + 1) × (room_of c.args.self.now.entries ≤ room_of self.entries + 1)) (sym w.self-is) (
         adding_more c.args.self.now c.loop-place.self c.args.task c.args.caller c.args.kind c.args.inputs.now c.loop-place.place (none_entry c.args.self.now c.args.task c.requires.new) c.loop-place.invariant.0 w.in-Awaits.awaited w.in-Awaits.number at w.join.new.self w.join.ensures.whole w.join.ensures.tied w.join.ensures.graph,
         size.len ∙ c.loop-place.invariant.1,
         subst (λ r. room_of c.args.self.now.entries ≤ r + 1) (sym size.room) c.loop-place.invariant.2,
         )
-      | in_default w ↦ (
-        elim (slot_cases _) [
-          | inl known ↦ adding_known c.args.self.now c.loop-place.self c.args.task c.args.caller c.args.kind c.args.inputs.now c.loop-place.place (none_entry c.args.self.now c.args.task c.requires.new) c.loop-place.invariant.0 known.0 (get_at c.args.inputs.now c.loop-place.place _ c.loop-place-test.true ∙ ap Some known.1)
-          | inr awaits ↦ ?
+      | in_default w ↦
+        subst (λ (self : Parts g.row.K.Denot). IsAdding c.args.self.now self c.args.task c.args.caller c.args.kind c.args.inputs.now (c.loop-place.place + 1) × (hash_map_len self.entries.tasks ≡ hash_map_len c.args.self.now.entries.tasks + 1) × (room_of c.args.self.now.entries ≤ room_of self.entries + 1)) (sym w.self-is) (
+        elim (slot_cases (get_or c.args.inputs.now c.loop-place.place (Known Null))) [
+          | inl known ↦ adding_known c.args.self.now c.loop-place.self c.args.task c.args.caller c.args.kind c.args.inputs.now c.loop-place.place (none_entry c.args.self.now c.args.task c.requires.new) c.loop-place.invariant.0 known.0 (get_at c.args.inputs.now c.loop-place.place (Known Null) c.loop-place-test.true ∙ ap Some known.1)
+          | inr awaits ↦ absurd (w.in_default.not-Awaits awaits.0 awaits.1 awaits.2)
         ],
         c.loop-place.invariant.1,
         c.loop-place.invariant.2,
