@@ -15,6 +15,7 @@ mod Queues
 mod Revising
 mod Runs
 mod Splicing
+mod Sweeps
 mod Tying
 mod Views
 mod Walking

@@ -27,6 +27,7 @@ use Rattle.task_graph.specs.Graphs.{tasks_of, graph_of, stopped_from, IsWhole, I
 use Rattle.task_graph.specs.Queue.{is_queued, IsQueue, queue_len, queue_capacity}
 use Rattle.task_graph.proofs.Chains.{not_none}
 use Rattle.task_graph.proofs.Weaving.{same_some}
+use Rattle.task_graph.proofs.Orders.{station_of_row}
 use Rattle.task_graph.proofs.Tying.{map_behind}
 use Rattle.task_graph.proofs.Views.{has-stopped, flag}
 
@@ -66,7 +67,7 @@ module _ {K : Type 0} (parts : Parts K) (none : parts.entries.tasks.entries ≡ 
   bounds_is c own is = let b = map_behind bounds_of (caller_at parts.callers c) own is in sym b.2 ∙ ap bounds_of (row_is c b.0 b.1)
 
   no_rows : (q g k : ℕ) → row_at (station_at (entries_at parts.entries)) q ≡ Some (g, k) → ⊥
-  no_rows q g k is = let clash : option_map {U = ℕ × ℕ} (λ s. (s.caller, q)) None ≡ Some (g, k) = sym (ap (option_map {U = ℕ × ℕ} (λ s. (s.caller, q))) (station_none q)) ∙ is in cc
+  no_rows q g k is = let r = station_of_row (station_at (entries_at parts.entries)) q g k is in not_none (station_at (entries_at parts.entries) q) r.0 (station_none q) r.1
 
   pub none-tasks : tasks_of parts.entries.tasks.entries ≡ map.empty
   none-tasks = tasks-none parts.entries.tasks.entries none

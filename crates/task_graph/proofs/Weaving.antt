@@ -42,8 +42,8 @@ none_or_some None = inl refl
 none_or_some (Some x) = inr (x, refl)
 
 -- rows of a group that are the same lead alike
-pub leads_alike : (row new : Spot → Option (ℕ × ℕ)) (g : ℕ) (bound : Option ℕ) (o : Option Spot)
-    → ((i : Spot) (k : ℕ) → new i ≡ Some (g, k) → row i ≡ Some (g, k)) → ((i : Spot) (k : ℕ) → row i ≡ Some (g, k) → new i ≡ Some (g, k))
+pub leads_alike : {I : Type 0} (row new : I → Option (ℕ × ℕ)) (g : ℕ) (bound : Option ℕ) (o : Option I)
+    → ((i : I) (k : ℕ) → new i ≡ Some (g, k) → row i ≡ Some (g, k)) → ((i : I) (k : ℕ) → row i ≡ Some (g, k) → new i ≡ Some (g, k))
     → Leads row g bound o → Leads new g bound o
 leads_alike row new g bound None back to leads = λ i k is more. leads i k (back i k is) more
 leads_alike row new g bound (Some p) back to leads = (leads.0, to p leads.0 leads.1, leads.2, λ i m is more. leads.3 i m (back i m is) more)

@@ -6,4 +6,5 @@ pub mod Inside
 pub mod Moving
 pub mod Order
 pub mod Queue
+pub mod Sweeping
 pub mod Weave

@@ -1,6 +1,7 @@
 //! The unfinished tasks of a core: which of them are ready, and who awaits whose output.
 #![tactic(auto)]
 
+mod abandoning;
 mod adding;
 mod callers;
 mod entries;
