@@ -12,6 +12,7 @@ mod Moves
 mod Opening
 mod Orders
 mod Queues
+mod Refilling
 mod Revising
 mod Runs
 mod Splicing

@@ -1,11 +1,11 @@
 -- Which tasks the fields behind `Tasks` stand for, and what holds of them.
-use Rattle.std.specs.Prelude.{◌≡◌, ℕ, suc, ◌+◌, ◌≤◌, ◌<◌, ◌^◌, cond, true, List, [], ◌∷◌, length, map as each, Option, None, Some, ◌⊎◌}
+use Rattle.std.specs.Prelude.{◌≡◌, ℕ, suc, ◌+◌, ◌≤◌, ◌<◌, ◌^◌, cond, true, List, [], ◌∷◌, length, ◌++◌, slice_get, map as each, Option, None, Some, ◌⊎◌}
 use Rattle.std.specs.HashMap.{hash_map_len}
 use Rattle.std.specs.Ordering.{nat_cmp}
 use Rattle.std.specs.FinMap as map
 use Rattle.std.specs.FinSet as numbers
 use Rattle.cht_ids.specs.declared.refs.Ref.{Ref}
-use Rattle.task_states.specs.States.{Unfinished, Graph, running, is_run_for}
+use Rattle.task_states.specs.States.{Unfinished, Graph, running, is_run_for, status_of}
 use Rattle.task_states.specs.Awaiters.{IsRunnable}
 use Rattle.task_graph.specs.declared.callers.Caller.{Caller}
 use Rattle.task_graph.specs.declared.entries.Entry.{Entry}
@@ -17,7 +17,9 @@ use Rattle.task_graph.specs.Inside.{shown_entry, place_in, entries_at, station_a
 use Rattle.task_graph.specs.Weave.{head_at, link_at, link_of, IsWoven, IsUnused}
 use Rattle.task_graph.specs.Callers.{caller_at, bounds_at}
 use Rattle.task_graph.specs.Order.{IsOrdered}
-use Rattle.task_graph.specs.Queue.{is_queued, IsQueue, IsQueueLeast, queue_capacity}
+use Rattle.task_graph.specs.declared.queue.Queue.{Queue}
+use Rattle.task_graph.specs.Queue.{is_queued, IsQueue, IsQueueLeast, queue_capacity, queue_len}
+use Rattle.task_states.specs.declared.states.TaskStatus.TheVariants.{Ready}
 
 -- the stopped callers of rows, which count from a number
 unfoldable pub stopped_from : ℕ → List Caller → numbers.FinSet nat_cmp
@@ -78,6 +80,10 @@ module _ {K : Type 0} where
   abbrev pub AreQueued : Held K → Type 0
   AreQueued held = (task : ℕ) → IsRunnable (graph_of held.parts) task → is_queued task held.ready ≡ true
 
+  -- Every task that can be run is among the numbers, but for one that may be missing.
+  abbrev pub AreQueuedBut : Held K → ℕ → Type 0
+  AreQueuedBut held but = (task : ℕ) → IsRunnable (graph_of held.parts) task → (task ≡ but) ⊎ (is_queued task held.ready ≡ true)
+
   -- There is room for the reserved tasks, and for the number of each.
   pub record HasRoom (held : Held K) : Type 0 where
     pub entries : held.spare ≤ room_of held.parts.entries
@@ -91,3 +97,10 @@ module _ {K : Type 0} where
     pub queued : AreQueued held
     pub least : (task : ℕ) → IsQueueLeast held.ready (Some task) → IsRunnable (graph_of held.parts) task
     pub room : HasRoom held
+
+  -- the Ready ones of the first entries are among the numbers, as many at most
+  pub record IsRefilled (entries rest : List (ℕ × Entry K)) (ready : Queue) : Type 0 where
+    pub front : List (ℕ × Entry K)
+    pub whole : front ++ rest ≡ entries
+    pub count : queue_len ready ≤ length front
+    pub queued : (i q : ℕ) (entry : Entry K) → slice_get front i ≡ Some (q, entry) → status_of (shown_entry entry) ≡ Ready → is_queued q ready ≡ true
