@@ -14,6 +14,7 @@ mod Orders
 mod Queues
 mod Refilling
 mod Revising
+mod Runnables
 mod Runs
 mod Splicing
 mod Sweeps

@@ -7,7 +7,7 @@ ghost use Rattle.task_graph.specs.Weave.{IsBeside, Middle, IsInserted, IsWithout
 ghost use Rattle.task_graph.specs.Callers.{caller_at, bounds_at, load_at, with_running_at};
 ghost use Rattle.task_graph.specs.Order.{IsOrdered, IsJustBelow, IsBehind, with_after_at, with_before_at, with_first_at, with_last_at};
 
-ghost use Rattle.std.specs.Prelude.{IsTrue, ◌↔◌, ◌^◌, length, set};
+ghost use Rattle.std.specs.Prelude.{IsTrue, ◌↔◌, ◌^◌, length, set, OnOk};
 ghost use Rattle.task_states.specs.States.{Known as KnownInput, Awaits as AwaitsTask};
 ghost use Rattle.task_states.specs.Steps.{with_task};
 ghost use Rattle.task_graph.specs.Weave.{head_at, link_at, IsFirst, IsUntied, IsTied, IsAtHome, IsUnused, IsUnasked, IsFirstIfInput, Head as AnyHead};
@@ -30,7 +30,7 @@ ghost use Rattle.task_states.specs.Awaiters.{IsRunnable};
 
 use crate::callers::{Caller, Callers};
 use crate::entries::{Entries, Entry, Link, Spot};
-use cht_ids::Ref;
+use cht_ids::{Memory, Ref};
 use task_states::{Awaiter, TaskStatus};
 
 // All tasks, and what is kept for their callers.
@@ -489,5 +489,17 @@ impl<K: Copy> Parts<K> {
             self.ask(to, number);
             self.unask(task);
         }
+    }
+
+    /// Makes room for so many tasks.
+    pub fn reserve(&mut self, tasks: u32) -> Result<(), Memory>
+        ensures at { (q : ℕ) → entries_at self.new.entries q ≡ entries_at self.old.entries q }
+        ensures callers { self.new.callers ≡ self.old.callers }
+        ensures len { hash_map_len self.new.entries.tasks ≡ hash_map_len self.old.entries.tasks }
+        ensures ok { OnOk result (tasks ≤ room_of self.new.entries) }
+        ensures room { room_of self.old.entries ≤ room_of self.new.entries }
+    {
+        self.entries.tasks.reserve(tasks as usize)?;
+        Ok(())
     }
 }
