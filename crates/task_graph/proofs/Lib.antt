@@ -13,6 +13,7 @@ mod Opening
 mod Orders
 mod Queues
 mod Refilling
+mod Reordering
 mod Revising
 mod Runnables
 mod Runs

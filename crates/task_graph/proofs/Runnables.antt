@@ -10,8 +10,8 @@ use Rattle.std.specs.Cmp.{nat_cmp_total, unsigned_tied}
 use Rattle.cht_ids.specs.declared.refs.Ref.{Ref}
 use Rattle.task_states.specs.declared.states.TaskStatus.{TaskStatus}
 use Rattle.task_states.specs.declared.states.TaskStatus.TheVariants.{Unknown, Waiting, Ready, Running}
-use Rattle.task_states.specs.States.{Input, Known, Awaits, Unfinished, Graph, is_awaiting, status, status_of, task_at, is_stopped}
-use Rattle.task_states.specs.Steps.{with_task, redirected, inputs_redirected, added, removed, with_stopped, abandoned}
+use Rattle.task_states.specs.States.{Input, Known, Awaits, Unfinished, Graph, is_awaiting, status, status_of, task_at, is_stopped, asked_of}
+use Rattle.task_states.specs.Steps.{with_task, redirected, inputs_redirected, added, removed, with_stopped, abandoned, asked_moved, forwarded, with_asked, without_asked}
 use Rattle.task_states.specs.Maps.{each_changed, kept}
 use Rattle.task_states.specs.Awaiters.{IsRunnable}
 use Rattle.task_states.proofs.Maps.{same_or_not, test_same, test_apart, get-each_changed, get-kept, get_inserted, get_removed}
@@ -136,3 +136,16 @@ module _ {K : Type 0} (graph : Graph Ref K) where
       let k = kept_some c (map.get graph.tasks q) runs.unfinished (sym (get-kept (λ task. not (nat_eq task.caller c)) graph.tasks q) ∙ runs.there) in
       runs_from graph q runs.unfinished k.0 (ready_of (abandoned graph c) q runs)
       (sym (numbers.contains-remove nat_cmp_total graph.stopped c runs.unfinished.caller ∙ ap (λ b. not b && is_stopped graph runs.unfinished.caller) (unsigned_tied runs.unfinished.caller c ∙ k.1)) ∙ runs.not_stopped)
+
+moved_back : {K : Type 0} (graph : Graph Ref K) (task to q number : ℕ) → IsRunnable (with_asked (without_asked graph task) to number) q → IsRunnable graph q
+moved_back graph task to q number runs =
+    runs_same graph task q (λ u. record u { asked = None }) (λ u. (refl, refl)) (runs_same (without_asked graph task) to q (λ u. record u { asked = Some number }) (λ u. (refl, refl)) runs)
+
+module _ {K : Type 0} (graph : Graph Ref K) where
+  moved_runs : (task to q : ℕ) (o : Option ℕ) → IsRunnable (asked_moved (inputs_redirected graph task to) task to o) q → IsRunnable (inputs_redirected graph task to) q
+  moved_runs task to q None runs = runs
+  moved_runs task to q (Some number) runs = moved_back (inputs_redirected graph task to) task to q number runs
+
+  -- all that awaits one task awaits another
+  pub runs_forwarded : (task to q : ℕ) → IsRunnable (forwarded graph task to) q → IsRunnable graph q
+  runs_forwarded task to q runs = runs_redirected graph task to q (moved_runs task to q (asked_of graph task) runs)

@@ -6,5 +6,6 @@ pub mod Inside
 pub mod Moving
 pub mod Order
 pub mod Queue
+pub mod Reading
 pub mod Sweeping
 pub mod Weave

@@ -8,4 +8,8 @@ mod entries;
 mod held;
 mod parts;
 mod queue;
+mod reading;
+mod tasks;
 mod weave;
+
+pub use tasks::Tasks;

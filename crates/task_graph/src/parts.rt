@@ -7,7 +7,7 @@ ghost use Rattle.task_graph.specs.Weave.{IsBeside, Middle, IsInserted, IsWithout
 ghost use Rattle.task_graph.specs.Callers.{caller_at, bounds_at, load_at, with_running_at};
 ghost use Rattle.task_graph.specs.Order.{IsOrdered, IsJustBelow, IsBehind, with_after_at, with_before_at, with_first_at, with_last_at};
 
-ghost use Rattle.std.specs.Prelude.{IsTrue, ◌↔◌, ◌^◌, length, set, OnOk};
+ghost use Rattle.std.specs.Prelude.{IsTrue, ◌↔◌, ◌⊎◌, ◌^◌, length, set, OnOk};
 ghost use Rattle.task_states.specs.States.{Known as KnownInput, Awaits as AwaitsTask};
 ghost use Rattle.task_states.specs.Steps.{with_task};
 ghost use Rattle.task_graph.specs.Weave.{head_at, link_at, IsFirst, IsUntied, IsTied, IsAtHome, IsUnused, IsUnasked, IsFirstIfInput, Head as AnyHead};
@@ -421,6 +421,7 @@ impl<K: Copy> Parts<K> {
         ensures whole { IsWhole self.new }
         ensures graph { (awaiter : AnyAwaiter) → IsLeastAwaiter (graph_of self.old) task awaiter → graph_of self.new ≡ delivered (graph_of self.old) task awaiter r }
         ensures input { (awaiter : AnyAwaiter) → IsLeastAwaiter (graph_of self.old) task awaiter → result ≡ task_of awaiter }
+        ensures runs { (q : ℕ) → IsRunnable (graph_of self.new) q → (result ≡ Some q) ⊎ IsRunnable (graph_of self.old) q }
         ensures size { IsSameSize self.old.entries self.new.entries }
     {
         match self.awaiter(task) {
