@@ -12,6 +12,7 @@ mod Moves
 mod Opening
 mod Orders
 mod Queues
+mod Readings
 mod Refilling
 mod Reordering
 mod Revising

@@ -137,7 +137,7 @@ same_lists [] (y ∷ ys) same = absurd (not_none None y refl (same 0))
 same_lists (x ∷ xs) [] same = absurd (not_none None x refl (sym (same 0)))
 same_lists (x ∷ xs) (y ∷ ys) same = let head = same_some x y (same 0) in let tail = same_lists xs ys (λ k. same (suc k)) in λ i. head i ∷ tail i
 
-get_each : {X Y : Type 0} (f : X → Y) (xs : List X) (k : ℕ) → slice_get (each f xs) k ≡ option_map f (slice_get xs k)
+pub get_each : {X Y : Type 0} (f : X → Y) (xs : List X) (k : ℕ) → slice_get (each f xs) k ≡ option_map f (slice_get xs k)
 get_each f [] k = refl
 get_each f (x ∷ xs) zero = refl
 get_each f (x ∷ xs) (suc k) = get_each f xs k

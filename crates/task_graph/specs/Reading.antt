@@ -1,5 +1,5 @@
 -- What is read of tasks.
-use Rattle.std.specs.Prelude.{◌≡◌, ℕ, ◌<◌, ◌≤◌, false, List, slice_get, Option, None, Some, IsSome}
+use Rattle.std.specs.Prelude.{◌≡◌, ℕ, ◌<◌, ◌≤◌, ◌+◌, ◌-◌, false, List, slice_get, Option, None, Some, IsSome}
 use Rattle.cht_ids.specs.declared.refs.Ref.{Ref}
 use Rattle.task_states.specs.States.{Graph, caller_of}
 use Rattle.task_graph.specs.declared.callers.Caller.{Caller}
@@ -12,3 +12,8 @@ IsCeiling graph caller after (Some at) = (caller_of graph at ≡ Some caller) ×
 -- a caller that is not stopped has a task
 abbrev pub HasWanted : List Caller → Type 0
 HasWanted rows = (i : ℕ) × (row : Caller) × (slice_get rows i ≡ Some row) × (row.stopped ≡ false) × IsSome row.first
+
+-- how far a task is from the last one
+abbrev pub rest_to : ℕ → Option ℕ → ℕ
+rest_to last None = 0
+rest_to last (Some task) = last + 1 - task

@@ -1,6 +1,7 @@
 // What is read of tasks.
 ghost use Rattle.std.specs.Prelude.{◌≡◌, ◌<◌, ◌≤◌, ◌↔◌, ℕ, take, length, slice_get, option_map, Some, None, IsSome, IsTrue};
 ghost use Rattle.task_states.specs.Awaiters.{IsLeastOf, IsLater, IsWanted};
+ghost use Rattle.task_states.specs.States.{caller_of};
 ghost use Rattle.task_graph.specs.Inside.{inputs_of, shown_place};
 ghost use Rattle.task_graph.specs.Contents.{input_of};
 ghost use Rattle.task_graph.specs.Graphs.{graph_of, IsWhole};
@@ -39,8 +40,9 @@ impl<K: Copy> Entry<K> {
 
 impl<K: Copy> Parts<K> {
     // The least task of a caller above a number, looked for from a task of the caller on.
-    fn above(&self, caller: u32, after: u128, from: Option<u128>) -> Option<u128>
+    fn above(&self, caller: u32, after: u128, from: Option<u128>, last: u128) -> Option<u128>
         requires whole { IsWhole self.now }
+        requires last { (task : ℕ) → caller_of (graph_of self.now) task ≡ Some caller → task ≤ last }
         requires from { IsCeiling (graph_of self.now) caller after from }
         ensures { IsLeastOf (IsLater (graph_of self.now) caller after) result }
     {
@@ -73,7 +75,7 @@ impl<K: Copy> Parts<K> {
                 if last <= after {
                     None
                 } else {
-                    self.above(caller, after, row.first)
+                    self.above(caller, after, row.first, last)
                 }
             }
         }
