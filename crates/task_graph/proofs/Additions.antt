@@ -162,12 +162,12 @@ module _ {K : Type 0} (old now : Parts K) (task caller : ℕ) (kind : K) (inputs
         let u = map_behind (λ (u : Unfinished Ref K). u.caller) (task_at (graph_of old) awaited) caller of in
         let apart : awaited ≡ task → ⊥ = λ same. not_none (task_at (graph_of old) awaited) u.0 (ap (task_at (graph_of old)) same ∙ none_old) u.1 in
         let e = map_behind shown_entry (entries_at now.entries awaited) u.0 (sym (task_is now awaited) ∙ task_old awaited apart ∙ u.1) in (
-        head_of entry_new.0,
-        head_of e.0,
-        ap (option_map head_of) entry_new.1,
-        ap (option_map head_of) e.1,
-        ap (λ (x : Unfinished Ref K). x.caller) e.2 ∙ u.2 ∙ sym (ap (λ (x : Unfinished Ref K). x.caller) entry_new.2),
-        ap (λ (x : Unfinished Ref K). x.runner) entry_new.2,
+          head_of entry_new.0,
+          head_of e.0,
+          ap (option_map head_of) entry_new.1,
+          ap (option_map head_of) e.1,
+          ap (λ (x : Unfinished Ref K). x.caller) e.2 ∙ u.2 ∙ sym (ap (λ (x : Unfinished Ref K). x.caller) entry_new.2),
+          ap (λ (x : Unfinished Ref K). x.runner) entry_new.2,
         )
 
     pub spot_unused : IsFree (graph_of old) number → ((k t : ℕ) → k < i → slice_get inputs k ≡ Some (Awaits t number) → ⊥) → IsUnused (link_at (entries_at now.entries)) number
@@ -182,11 +182,11 @@ module _ {K : Type 0} (old now : Parts K) (task caller : ℕ) (kind : K) (inputs
         let e = map_behind head_of (entries_at now.entries q) h there in
         elim (same_or_not q task) [
           | inl here ↦
-            let one = same_some entry_new.0 e.0 (sym entry_new.1 ∙ ap (entries_at now.entries) (sym here) ∙ e.1) in
-            not_none h.asked n (ap (λ (x : Head). x.asked) (sym e.2) ∙ ap (λ (x : Entry K). x.asked) (sym one) ∙ ap (λ (x : Unfinished Ref K). x.asked) entry_new.2) asked
+              let one = same_some entry_new.0 e.0 (sym entry_new.1 ∙ ap (entries_at now.entries) (sym here) ∙ e.1) in
+              not_none h.asked n (ap (λ (x : Head). x.asked) (sym e.2) ∙ ap (λ (x : Entry K). x.asked) (sym one) ∙ ap (λ (x : Unfinished Ref K). x.asked) entry_new.2) asked
           | inr apart ↦
-            let u : task_at (graph_of old) q ≡ Some (shown_entry e.0) = sym (task_old q apart) ∙ task_is now q ∙ ap (option_map shown_entry) e.1 in
-            free q (Asked e.0.caller n) (record { unfinished = shown_entry e.0; there = u; caller_is = refl; number_is = ap (λ (x : Head). x.asked) e.2 ∙ asked }) same
+              let u : task_at (graph_of old) q ≡ Some (shown_entry e.0) = sym (task_old q apart) ∙ task_is now q ∙ ap (option_map shown_entry) e.1 in
+              free q (Asked e.0.caller n) (record { unfinished = shown_entry e.0; there = u; caller_is = refl; number_is = ap (λ (x : Head). x.asked) e.2 ∙ asked }) same
         ]
 
     -- one input more
@@ -200,15 +200,15 @@ module _ {K : Type 0} (old now : Parts K) (task caller : ℕ) (kind : K) (inputs
           ∙ ap (λ n. added (graph_of old) task caller kind (mixed n inputs)) (suc_one i);
       numbers = λ p l there. elim (same_spot p (record { task = task; place = i })) [
         | inl same ↦
-          let one = same_some l _ (sym there ∙ ap (link_at (entries_at next.entries)) same ∙ tied.2.here) in
-          inr (i, awaited, omega arith, at ∙ ap (λ (x : Link). Some (Awaits awaited x.number)) (sym one))
+            let one = same_some l _ (sym there ∙ ap (link_at (entries_at next.entries)) same ∙ tied.2.here) in
+            inr (i, awaited, omega arith, at ∙ ap (λ (x : Link). Some (Awaits awaited x.number)) (sym one))
         | inr other ↦
-          let t = tied.2.nexts p l other there in
-          let r = t.2 in
-          elim (adding.numbers p t.0 t.1) [
-            | inl before ↦ inl (before.0, before.1, before.2, before.3 ∙ sym r.number)
-            | inr one ↦ let low = one.2 in inr (one.0, one.1, omega arith, one.3 ∙ ap (λ n. Some (Awaits one.1 n)) (sym r.number))
-          ]
+            let t = tied.2.nexts p l other there in
+            let r = t.2 in
+            elim (adding.numbers p t.0 t.1) [
+              | inl before ↦ inl (before.0, before.1, before.2, before.3 ∙ sym r.number)
+              | inr one ↦ let low = one.2 in inr (one.0, one.1, omega arith, one.3 ∙ ap (λ n. Some (Awaits one.1 n)) (sym r.number))
+            ]
       ];
     }
 

@@ -184,8 +184,8 @@ none_from (Some x) is = absurd (cc)
 pub idle_links : {K : Type 0} (parts : Parts K) (t : ℕ) (e : Entry K) → IsWhole parts → entries_at parts.entries t ≡ Some e → AwaitsNothing (graph_of parts) t → IsNotAwaited (graph_of parts) t
     → ((p : Spot) (l : Link) → link_at (entries_at parts.entries) p ≡ Some l → p.task ≡ t → ⊥) × ((p : Spot) (l : Link) → link_at (entries_at parts.entries) p ≡ Some l → l.task ≡ t → ⊥)
 idle_links parts t e whole is waits awaited = (
-    λ p l there same. waits p.place l.task l.number (ap (λ k. input_at (graph_of parts) k p.place) (sym same) ∙ input_is parts p l (awaits_behind (place_at (entries_at parts.entries) p) l there)),
-    λ p l there same. awaited (AtInput p.task p.place l.number) (input_is parts p l (awaits_behind (place_at (entries_at parts.entries) p) l there) ∙ ap (λ k. Some (AwaitsTask k l.number)) same),
+  λ p l there same. waits p.place l.task l.number (ap (λ k. input_at (graph_of parts) k p.place) (sym same) ∙ input_is parts p l (awaits_behind (place_at (entries_at parts.entries) p) l there)),
+  λ p l there same. awaited (AtInput p.task p.place l.number) (input_is parts p l (awaits_behind (place_at (entries_at parts.entries) p) l there) ∙ ap (λ k. Some (AwaitsTask k l.number)) same),
 )
 
 -- no two awaiters of a task have the least number

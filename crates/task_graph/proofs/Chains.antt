@@ -37,25 +37,25 @@ module _ {I : Type 0} (dec : (i j : I) → (i ≡ j) ⊎ (i ≡ j → ⊥)) (row
         | inr old ↦ leads i k old (above_more bound n k above more)
       ]
   leads_from_new bound (Some p) leads above gap = (
-      leads.0,
-      stays p (g, leads.0) leads.1,
-      gap p leads.0 leads.1 leads.2,
-      λ i m is more. elim (was i g m is) [
-        | inl same ↦ absurd (let at = same.2 in omega arith)
-        | inr old ↦ leads.3 i m old (above_more bound n m above more)
-      ],
+    leads.0,
+    stays p (g, leads.0) leads.1,
+    gap p leads.0 leads.1 leads.2,
+    λ i m is more. elim (was i g m is) [
+      | inl same ↦ absurd (let at = same.2 in omega arith)
+      | inr old ↦ leads.3 i m old (above_more bound n m above more)
+    ],
   )
 
   -- the new row leads on from the bound below it
   pub leads_to_new : (bound : Option ℕ) → Above bound n → ((i : I) (m : ℕ) → row i ≡ Some (g, m) → Above bound m → n < m) → Leads new g bound (Some x)
   leads_to_new bound above gap = (
-      n,
-      here,
-      above,
-      λ i m is more. elim (was i g m is) [
-        | inl same ↦ let at = same.2 in omega arith
-        | inr old ↦ let later = gap i m old more in omega arith
-      ],
+    n,
+    here,
+    above,
+    λ i m is more. elim (was i g m is) [
+      | inl same ↦ let at = same.2 in omega arith
+      | inr old ↦ let later = gap i m old more in omega arith
+    ],
   )
 
   -- what leads on from elsewhere stays, where another row of the group stands between
@@ -66,18 +66,18 @@ module _ {I : Type 0} (dec : (i j : I) → (i ≡ j) ⊎ (i ≡ j → ⊥)) (row
         | inr old ↦ leads i k old more
       ]
   leads_still h bound (Some p) leads between = (
-      leads.0,
-      stays p (h, leads.0) leads.1,
-      leads.2,
-      λ i m is more. elim (was i h m is) [
-        | inl same ↦
+    leads.0,
+    stays p (h, leads.0) leads.1,
+    leads.2,
+    λ i m is more. elim (was i h m is) [
+      | inl same ↦
           let found = between same.1 (subst (Above bound) same.2 more) in
           let least = leads.3 found.0 found.1 found.2 found.3 in
           let later = found.4 in
           let at = same.2 in
           omega arith
-        | inr old ↦ leads.3 i m old more
-      ],
+      | inr old ↦ leads.3 i m old more
+    ],
   )
 
 -- a row less
@@ -104,24 +104,24 @@ module _ {I : Type 0} (dec : (i j : I) → (i ≡ j) ⊎ (i ≡ j → ⊥)) (row
       let above : Above bound n = subst (Above bound) at to.2 in
       let key = from.0 in
       let later : n < key = from.2 in (
-      key,
-      rest p (λ same. let clash = (same_key (sym from.1 ∙ ap row same ∙ here)).1 in omega arith) ∙ from.1,
-      above_more bound n key above later,
-      λ i m is more.
-      let was = left i (g, m) is in
-      let least = to.3 i m was.1 more in
-      elim (cases_eq m n) [
-        | inl same ↦ absurd (was.0 (one i (was.1 ∙ ap (λ k. row_with g k) same)))
-        | inr apart ↦ from.3 i m was.1 (omega arith)
-      ],
+        key,
+        rest p (λ same. let clash = (same_key (sym from.1 ∙ ap row same ∙ here)).1 in omega arith) ∙ from.1,
+        above_more bound n key above later,
+        λ i m is more.
+            let was = left i (g, m) is in
+            let least = to.3 i m was.1 more in
+            elim (cases_eq m n) [
+              | inl same ↦ absurd (was.0 (one i (was.1 ∙ ap (λ k. row_with g k) same)))
+              | inr apart ↦ from.3 i m was.1 (omega arith)
+            ],
       )
 
   -- what leads on to another row stays
   pub leads_past : (h : ℕ) (bound : Option ℕ) (o : Option I) → (o ≡ Some x → ⊥) → Leads row h bound o → Leads new h bound o
   leads_past h bound None other leads = λ i k is more. leads i k (left i (h, k) is).1 more
   leads_past h bound (Some p) other leads = (
-      leads.0,
-      rest p (λ same. other (ap Some same)) ∙ leads.1,
-      leads.2,
-      λ i m is more. leads.3 i m (left i (h, m) is).1 more,
+    leads.0,
+    rest p (λ same. other (ap Some same)) ∙ leads.1,
+    leads.2,
+    λ i m is more. leads.3 i m (left i (h, m) is).1 more,
   )

@@ -36,14 +36,19 @@ reheaded-woven heads new links new_links change woven same made keeps idle apart
       was = λ p l is. sym (same p) ∙ is;
       stays = λ p l h is _. same p ∙ is;
       home = λ p l is.
-      let h = woven.home p l (sym (same p) ∙ is) in
-      (change p.task h.0, change l.task h.1, made p.task ∙ ap (option_map (change p.task)) h.2, made l.task ∙ ap (option_map (change l.task)) h.3,
-      (keeps l.task h.1).0 ∙ h.4 ∙ sym (keeps p.task h.0).0, idle p l h.0 (sym (same p) ∙ is) h.2 h.5);
+          let h = woven.home p l (sym (same p) ∙ is) in (
+            change p.task h.0,
+            change l.task h.1,
+            made p.task ∙ ap (option_map (change p.task)) h.2,
+            made l.task ∙ ap (option_map (change l.task)) h.3,
+            (keeps l.task h.1).0 ∙ h.4 ∙ sym (keeps p.task h.0).0,
+            idle p l h.0 (sym (same p) ∙ is) h.2 h.5,
+          );
       lists = λ q h is. let b = map_behind (change q) (heads q) h (sym (made q) ∙ is) in
-      inl (b.0, b.1, ap (λ (x : Head). x.first) (sym b.2) ∙ (keeps q b.0).1, ap (λ (x : Head). x.last) (sym b.2) ∙ (keeps q b.0).2);
+          inl (b.0, b.1, ap (λ (x : Head). x.first) (sym b.2) ∙ (keeps q b.0).1, ap (λ (x : Head). x.last) (sym b.2) ∙ (keeps q b.0).2);
       asked_apart = λ p l q h n is there asked same_number.
-      let b = map_behind (change q) (heads q) h (sym (made q) ∙ there) in
-      apart p l q b.0 n (sym (same p) ∙ is) b.1 (ap (λ (x : Head). x.asked) b.2 ∙ asked) same_number;
+          let b = map_behind (change q) (heads q) h (sym (made q) ∙ there) in
+          apart p l q b.0 n (sym (same p) ∙ is) b.1 (ap (λ (x : Head). x.asked) b.2 ∙ asked) same_number;
     })
 
 map_same : {X Y : Type 0} (f g : X → Y) → ((x : X) → f x ≡ g x) → (o : Option X) → option_map f o ≡ option_map g o
@@ -75,9 +80,9 @@ module _ {K : Type 0} where
       same_maps new (put_at tasks t (option_map change (map.get tasks t))) (λ q. made q
       ∙ elim (same_or_not q t) [
         | inl same ↦
-          ap (λ o. option_map (at q) o) (ap (map.get tasks) same)
-          ∙ ap (λ r. option_map (at r) (map.get tasks t)) same
-          ∙ map_same (at t) change here (map.get tasks t)
-          ∙ sym (ap (λ b. cond b (option_map change (map.get tasks t)) (map.get tasks q)) (ap (λ r. nat_eq r t) same ∙ test_same t))
+            ap (λ o. option_map (at q) o) (ap (map.get tasks) same)
+            ∙ ap (λ r. option_map (at r) (map.get tasks t)) same
+            ∙ map_same (at t) change here (map.get tasks t)
+            ∙ sym (ap (λ b. cond b (option_map change (map.get tasks t)) (map.get tasks q)) (ap (λ r. nat_eq r t) same ∙ test_same t))
         | inr apart ↦ map_id (at q) (λ u. other q u apart) (map.get tasks q) ∙ sym (ap (λ b. cond b (option_map change (map.get tasks t)) (map.get tasks q)) (test_apart q t apart))
       ] ∙ sym (get_changed tasks t q change))

@@ -17,9 +17,9 @@ module _ {X : Type 0} where
       elim (map.get a k) as (λ o. map.get a k ≡ o → map.len a ≡ map.len (map.remove a k) + cond (is_some o) 1 0) [
         | None ↦ λ is. let e = map.len-remove nat_cmp_total a k ∙ ap (λ o. cond (is_some o) (map.len a - 1) (map.len a)) is in omega arith
         | Some x ↦ λ is.
-          let e = map.len-remove nat_cmp_total a k ∙ ap (λ o. cond (is_some o) (map.len a - 1) (map.len a)) is in
-          let some : map.len a ≡ 0 → ⊥ = some_len a k x is in
-          omega arith
+            let e = map.len-remove nat_cmp_total a k ∙ ap (λ o. cond (is_some o) (map.len a - 1) (map.len a)) is in
+            let some : map.len a ≡ 0 → ⊥ = some_len a k x is in
+            omega arith
       ] refl
 
   -- 1 where there is a value that passes, else 0

@@ -85,7 +85,7 @@ idle_passes c u none = not_run (nat_eq u.caller c) (list_any is_awaiting u.input
 
 -- a task that goes
 module _ {K : Type 0} (old new : Parts K) (middle : Middle K) (t : ℕ) (whole : IsWhole old) (idle : IsIdle old t) (without : IsWithout (entries_at old.entries) middle t) (beside : IsBeside middle (entries_at new.entries))
-  (ordered : IsOrdered (bounds_at (caller_at new.callers)) (station_at (entries_at new.entries))) (load : (q : ℕ) → load_at (caller_at new.callers) q ≡ load_at (caller_at old.callers) q) (len : length new.callers.rows ≡ length old.callers.rows) where
+    (ordered : IsOrdered (bounds_at (caller_at new.callers)) (station_at (entries_at new.entries))) (load : (q : ℕ) → load_at (caller_at new.callers) q ≡ load_at (caller_at old.callers) q) (len : length new.callers.rows ≡ length old.callers.rows) where
   here_none : middle t ≡ None
   here_none = without t ∙ ap (λ b. cond b None (entries_at old.entries t)) (test_same t)
 
@@ -132,9 +132,9 @@ module _ {K : Type 0} (old new : Parts K) (middle : Middle K) (t : ℕ) (whole :
       was = λ p l is. (link_old p l is).1;
       stays = λ p l h is _. link_new p l is;
       home = λ p l is.
-      let o = link_old p l is in
-      let h = whole.woven.home p l o.1 in
-      (h.0, h.1, head_new p.task h.0 o.0 h.2, head_new l.task h.1 (idle.awaited p l o.1) h.3, h.4, h.5);
+          let o = link_old p l is in
+          let h = whole.woven.home p l o.1 in
+          (h.0, h.1, head_new p.task h.0 o.0 h.2, head_new l.task h.1 (idle.awaited p l o.1) h.3, h.4, h.5);
       lists = λ q h is. inl (h, (head_old q h is).1, refl, refl);
       asked_apart = λ p l q h n is there asked same. whole.woven.asked_apart p l q h n (link_old p l is).1 (head_old q h there).1 asked same;
     });
@@ -145,13 +145,13 @@ module _ {K : Type 0} (old new : Parts K) (middle : Middle K) (t : ℕ) (whole :
     ]);
     rows = len ∙ whole.rows;
     counted = counted_stays old new middle beside load len whole t there_same
-      (λ c. ap (passes (is_run_for c)) (task_there old t idle.entry idle.there) ∙ idle_passes c (shown_entry idle.entry) idle.idle)
-      (λ c. ap (passes (is_run_for c)) (tasks_are old new middle beside load len t ∙ ap (option_map shown_entry) here_none));
+        (λ c. ap (passes (is_run_for c)) (task_there old t idle.entry idle.there) ∙ idle_passes c (shown_entry idle.entry) idle.idle)
+        (λ c. ap (passes (is_run_for c)) (tasks_are old new middle beside load len t ∙ ap (option_map shown_entry) here_none));
   }
 
 -- a task that comes and awaits nothing
 module _ {K : Type 0} (old new : Parts K) (middle : Middle K) (t : ℕ) (entry : Entry K) (whole : IsWhole old) (fresh : entries_at old.entries t ≡ None) (bare : IsBare entry) (inserted : IsInserted (entries_at old.entries) middle t entry) (beside : IsBeside middle (entries_at new.entries))
-  (ordered : IsOrdered (bounds_at (caller_at new.callers)) (station_at (entries_at new.entries))) (load : (q : ℕ) → load_at (caller_at new.callers) q ≡ load_at (caller_at old.callers) q) (len : length new.callers.rows ≡ length old.callers.rows) where
+    (ordered : IsOrdered (bounds_at (caller_at new.callers)) (station_at (entries_at new.entries))) (load : (q : ℕ) → load_at (caller_at new.callers) q ≡ load_at (caller_at old.callers) q) (len : length new.callers.rows ≡ length old.callers.rows) where
   placed : Entry K
   placed = record entry { before = inserted.0; after = inserted.1 }
 
@@ -186,8 +186,8 @@ module _ {K : Type 0} (old new : Parts K) (middle : Middle K) (t : ℕ) (entry :
       let at : head_at middle q ≡ Some h = sym (beside.heads q) ∙ is in
       elim (same_or_not q t) [
         | inl same ↦
-          let one : head_of placed ≡ h = same_some (head_of placed) h (sym (ap (option_map head_of) (ap middle same ∙ placed_here)) ∙ at) in
-          inl (same, ap (λ (x : Head). x.first) (sym one) ∙ bare.first, ap (λ (x : Head). x.last) (sym one) ∙ bare.last, ap (λ (x : Head). x.asked) (sym one) ∙ bare.asked)
+            let one : head_of placed ≡ h = same_some (head_of placed) h (sym (ap (option_map head_of) (ap middle same ∙ placed_here)) ∙ at) in
+            inl (same, ap (λ (x : Head). x.first) (sym one) ∙ bare.first, ap (λ (x : Head). x.last) (sym one) ∙ bare.last, ap (λ (x : Head). x.asked) (sym one) ∙ bare.asked)
         | inr apart ↦ inr (sym (ap (option_map head_of) (placed_other q apart)) ∙ at)
       ]
 
@@ -218,9 +218,9 @@ module _ {K : Type 0} (old new : Parts K) (middle : Middle K) (t : ℕ) (entry :
       was = λ p l is. (link_was p l is).1;
       stays = λ p l h is _. beside.links p ∙ ap (λ o. link_of (place_in o p.place)) (placed_other p.task (fresh_link p l is)) ∙ is;
       home = λ p l is.
-      let o = link_was p l is in
-      let h = whole.woven.home p l o.1 in
-      (h.0, h.1, head_stays p.task h.0 h.2, head_stays l.task h.1 h.3, h.4, h.5);
+          let o = link_was p l is in
+          let h = whole.woven.home p l o.1 in
+          (h.0, h.1, head_stays p.task h.0 h.2, head_stays l.task h.1 h.3, h.4, h.5);
       lists = λ q h is. elim (head_was q h is) [
         | inl new_one ↦ inr (new_one.1, new_one.2, λ p l there at. let home = whole.woven.home p l there in fresh_head l.task home.1 home.3 (at ∙ new_one.0))
         | inr before ↦ inl (h, before, refl, refl)
@@ -237,14 +237,14 @@ module _ {K : Type 0} (old new : Parts K) (middle : Middle K) (t : ℕ) (entry :
     ]);
     rows = len ∙ whole.rows;
     counted = counted_stays old new middle beside load len whole t placed_other
-      (λ c. ap (passes (is_run_for c)) (task_is old t ∙ ap (option_map shown_entry) fresh))
-      (λ c. ap (passes (is_run_for c)) (tasks_are old new middle beside load len t ∙ ap (option_map shown_entry) placed_here) ∙ idle_passes c (shown_entry placed) bare.idle);
+        (λ c. ap (passes (is_run_for c)) (task_is old t ∙ ap (option_map shown_entry) fresh))
+        (λ c. ap (passes (is_run_for c)) (tasks_are old new middle beside load len t ∙ ap (option_map shown_entry) placed_here) ∙ idle_passes c (shown_entry placed) bare.idle);
   }
 
 -- an input that is written into a task that no worker runs
 module _ {K : Type 0} (old new : Parts K) (spot : Spot) (input : Input Ref) (whole : IsWhole old) (e : Entry K) (is : entries_at old.entries spot.task ≡ Some e) (idle : e.runner ≡ None) (same : new.callers ≡ old.callers)
-  (woven : IsWoven (head_at (entries_at new.entries)) (link_at (entries_at new.entries))) (stations : (q : ℕ) → station_at (entries_at new.entries) q ≡ station_at (entries_at old.entries) q)
-  (shown : (q : ℕ) → shown_at (entries_at new.entries) q ≡ option_map (with_input q spot input) (shown_at (entries_at old.entries) q)) (counts : (q : ℕ) → option_map count_of (entries_at new.entries q) ≡ option_map count_of (entries_at old.entries q)) where
+    (woven : IsWoven (head_at (entries_at new.entries)) (link_at (entries_at new.entries))) (stations : (q : ℕ) → station_at (entries_at new.entries) q ≡ station_at (entries_at old.entries) q)
+    (shown : (q : ℕ) → shown_at (entries_at new.entries) q ≡ option_map (with_input q spot input) (shown_at (entries_at old.entries) q)) (counts : (q : ℕ) → option_map count_of (entries_at new.entries q) ≡ option_map count_of (entries_at old.entries q)) where
   written : Unfinished Ref K → Unfinished Ref K
   written u = record u { inputs = set u.inputs spot.place input }
 
@@ -271,11 +271,11 @@ module _ {K : Type 0} (old new : Parts K) (spot : Spot) (input : Input Ref) (who
     short = λ q x at. let b = map_behind count_of (entries_at old.entries q) x.count (sym (counts q) ∙ ap (option_map count_of) at) in subst (λ n. n ≤ 4) b.2 (whole.short q b.0 b.1);
     rows = ap (λ (c : Callers). length c.rows) same ∙ whole.rows;
     counted = λ c row at.
-    let moved = count_changed (is_run_for c) (tasks_of old.entries.tasks.entries) (tasks_of new.entries.tasks.entries) spot.task rest_shown in
-    let before : passes (is_run_for c) (map.get (tasks_of old.entries.tasks.entries) spot.task) ≡ 0 = ap (passes (is_run_for c)) (task_there old spot.task e is) ∙ idle_passes c (shown_entry e) idle in
-    let after : passes (is_run_for c) (map.get (tasks_of new.entries.tasks.entries) spot.task) ≡ 0 = ap (passes (is_run_for c)) here_shown ∙ idle_passes c (with_input spot.task spot input (shown_entry e)) idle in
-    let was = whole.counted c row (ap (λ (x : Callers). caller_at x c) (sym same) ∙ at) in
-    omega arith;
+        let moved = count_changed (is_run_for c) (tasks_of old.entries.tasks.entries) (tasks_of new.entries.tasks.entries) spot.task rest_shown in
+        let before : passes (is_run_for c) (map.get (tasks_of old.entries.tasks.entries) spot.task) ≡ 0 = ap (passes (is_run_for c)) (task_there old spot.task e is) ∙ idle_passes c (shown_entry e) idle in
+        let after : passes (is_run_for c) (map.get (tasks_of new.entries.tasks.entries) spot.task) ≡ 0 = ap (passes (is_run_for c)) here_shown ∙ idle_passes c (with_input spot.task spot input (shown_entry e)) idle in
+        let was = whole.counted c row (ap (λ (x : Callers). caller_at x c) (sym same) ∙ at) in
+        omega arith;
   }
 
 -- an entry behind a head
@@ -284,13 +284,13 @@ entry_behind_head entries q h is = map_behind head_of (entries q) h is
 
 -- a caller that is stopped
 module _ {K : Type 0} (old new : Parts K) (c : ℕ) (row : Caller) (whole : IsWhole old) (is : caller_at old.callers c ≡ Some row) (same : new.entries ≡ old.entries)
-  (puts : (q : ℕ) → caller_at new.callers q ≡ cond (nat_eq q c) (Some (record row { stopped = true })) (caller_at old.callers q)) (len : length new.callers.rows ≡ length old.callers.rows) where
+    (puts : (q : ℕ) → caller_at new.callers q ≡ cond (nat_eq q c) (Some (record row { stopped = true })) (caller_at old.callers q)) (len : length new.callers.rows ≡ length old.callers.rows) where
   row_of_new : (q : ℕ) (r : Caller) → caller_at new.callers q ≡ Some r → (was : Caller) × (caller_at old.callers q ≡ Some was) × (bounds_of r ≡ bounds_of was) × (r.running ≡ was.running)
   row_of_new q r at =
       elim (same_or_not q c) [
         | inl here ↦
-          let one : record row { stopped = true } ≡ r = same_some _ r (sym (ap (λ b. cond b (Some (record row { stopped = true })) (caller_at old.callers q)) (ap (λ k. nat_eq k c) here ∙ test_same c)) ∙ sym (puts q) ∙ at) in
-          (row, ap (caller_at old.callers) here ∙ is, ap bounds_of (sym one), ap (λ (x : Caller). x.running) (sym one))
+            let one : record row { stopped = true } ≡ r = same_some _ r (sym (ap (λ b. cond b (Some (record row { stopped = true })) (caller_at old.callers q)) (ap (λ k. nat_eq k c) here ∙ test_same c)) ∙ sym (puts q) ∙ at) in
+            (row, ap (caller_at old.callers) here ∙ is, ap bounds_of (sym one), ap (λ (x : Caller). x.running) (sym one))
         | inr apart ↦ (r, sym (ap (λ b. cond b (Some (record row { stopped = true })) (caller_at old.callers q)) (test_apart q c apart)) ∙ sym (puts q) ∙ at, refl, refl)
       ]
 
@@ -309,9 +309,9 @@ module _ {K : Type 0} (old new : Parts K) (c : ℕ) (row : Caller) (whole : IsWh
       ∙ ap flag (puts q)
       ∙ elim (same_or_not q c) [
         | inl here ↦ let test : nat_eq q c ≡ true = ap (λ k. nat_eq k c) here ∙ test_same c in
-          ap (λ b. flag (cond b (Some (record row { stopped = true })) (caller_at old.callers q))) test ∙ sym (ap (λ b. b || has (stopped_from 0 old.callers.rows) q) test)
+            ap (λ b. flag (cond b (Some (record row { stopped = true })) (caller_at old.callers q))) test ∙ sym (ap (λ b. b || has (stopped_from 0 old.callers.rows) q) test)
         | inr apart ↦ let test = test_apart q c apart in
-          ap (λ b. flag (cond b (Some (record row { stopped = true })) (caller_at old.callers q))) test ∙ sym (has-stopped old.callers.rows q) ∙ sym (ap (λ b. b || has (stopped_from 0 old.callers.rows) q) test)
+            ap (λ b. flag (cond b (Some (record row { stopped = true })) (caller_at old.callers q))) test ∙ sym (has-stopped old.callers.rows q) ∙ sym (ap (λ b. b || has (stopped_from 0 old.callers.rows) q) test)
       ]
       ∙ sym (has_inserted (stopped_from 0 old.callers.rows) c q))
 
@@ -325,6 +325,6 @@ module _ {K : Type 0} (old new : Parts K) (c : ℕ) (row : Caller) (whole : IsWh
     short = λ q e at. whole.short q e (ap (λ es. entries_at es q) (sym same) ∙ at);
     rows = len ∙ whole.rows;
     counted = λ q r at.
-    let b = row_of_new q r at in
-    b.3 ∙ whole.counted q b.0 b.1 ∙ ap (λ (es : Entries K). map.len (kept (is_run_for q) (tasks_of es.tasks.entries))) (sym same);
+        let b = row_of_new q r at in
+        b.3 ∙ whole.counted q b.0 b.1 ∙ ap (λ (es : Entries K). map.len (kept (is_run_for q) (tasks_of es.tasks.entries))) (sym same);
   }

@@ -163,9 +163,9 @@ ask_revised parts t e row asked whole is at free = record {
   idle = elim (none_or_some e.runner) [
     | inl none ↦ inl none
     | inr some ↦ inr (λ p l linked same.
-      let h = whole.woven.home p l linked in
-      let one = same_some (head_of e) h.0 (sym (ap (head_at (entries_at parts.entries)) same ∙ ap (option_map head_of) is) ∙ h.2) in
-      not_none e.runner some.0 (ap (λ (x : Head). x.runner) one ∙ h.5) some.1)
+        let h = whole.woven.home p l linked in
+        let one = same_some (head_of e) h.0 (sym (ap (head_at (entries_at parts.entries)) same ∙ ap (option_map head_of) is) ∙ h.2) in
+        not_none e.runner some.0 (ap (λ (x : Head). x.runner) one ∙ h.5) some.1)
   ];
   free = λ n is. inl (free n is);
   counted = λ other there. let one = ap (λ (r : Caller). r.running) (same_some row other (sym at ∙ there)) in omega arith;

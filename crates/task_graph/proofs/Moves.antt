@@ -97,7 +97,7 @@ input_step task to number before now moved is apart =
     ]
 
 module _ {K : Type 0} (task to : ℕ) (start : Graph Ref K) (old new : Parts K) (spot : Spot) (moved : AreMoved task to start (graph_of old)) (step : IsMoved old new spot to) (apart : task ≡ to → ⊥) (own : Unfinished Ref K) (own_is : task_at (graph_of old) spot.task ≡ Some own)
-  (place : slice_get own.inputs spot.place ≡ Some (Awaits task step.link.number)) where
+    (place : slice_get own.inputs spot.place ≡ Some (Awaits task step.link.number)) where
   task_step : (u : Unfinished Ref K) → IsTaskMoved task to u own → IsTaskMoved task to u (record own { inputs = set own.inputs spot.place (Awaits to step.link.number) })
   task_step u m = record {
     caller = m.caller;
@@ -106,8 +106,8 @@ module _ {K : Type 0} (task to : ℕ) (start : Graph Ref K) (old new : Parts K) 
     asked = m.asked;
     inputs = λ k. elim (same_or_not k spot.place) [
       | inl same ↦
-        subst (IsInputMoved task to (slice_get u.inputs k)) (sym (ap (slice_get (set own.inputs spot.place (Awaits to step.link.number))) same ∙ get_set_same own.inputs spot.place (Awaits to step.link.number) (Awaits task step.link.number) place))
-        (input_step task to step.link.number (slice_get u.inputs k) (slice_get own.inputs k) (m.inputs k) (ap (slice_get own.inputs) same ∙ place) apart)
+          subst (IsInputMoved task to (slice_get u.inputs k)) (sym (ap (slice_get (set own.inputs spot.place (Awaits to step.link.number))) same ∙ get_set_same own.inputs spot.place (Awaits to step.link.number) (Awaits task step.link.number) place))
+          (input_step task to step.link.number (slice_get u.inputs k) (slice_get own.inputs k) (m.inputs k) (ap (slice_get own.inputs) same ∙ place) apart)
       | inr other ↦ subst (IsInputMoved task to (slice_get u.inputs k)) (sym (get_set_other own.inputs spot.place k (Awaits to step.link.number) other)) (m.inputs k)
     ];
   }
@@ -121,13 +121,13 @@ module _ {K : Type 0} (task to : ℕ) (start : Graph Ref K) (old new : Parts K) 
       | inr other ↦ step.tasks q other ∙ moved.none q is
     ];
     some = λ q u is.
-    let m = moved.some q u is in
-    elim (same_or_not q spot.task) [
-      | inl same ↦
-        let one : m.0 ≡ own = same_some m.0 own (sym m.1 ∙ ap (task_at (graph_of old)) same ∙ own_is) in
-        (record own { inputs = set own.inputs spot.place (Awaits to step.link.number) }, ap (task_at (graph_of new)) same ∙ step.own own own_is, task_step u (subst (IsTaskMoved task to u) one m.2))
-      | inr other ↦ (m.0, step.tasks q other ∙ m.1, m.2)
-    ];
+        let m = moved.some q u is in
+        elim (same_or_not q spot.task) [
+          | inl same ↦
+              let one : m.0 ≡ own = same_some m.0 own (sym m.1 ∙ ap (task_at (graph_of old)) same ∙ own_is) in
+              (record own { inputs = set own.inputs spot.place (Awaits to step.link.number) }, ap (task_at (graph_of new)) same ∙ step.own own own_is, task_step u (subst (IsTaskMoved task to u) one m.2))
+          | inr other ↦ (m.0, step.tasks q other ∙ m.1, m.2)
+        ];
   }
 
 -- lists with the same at each place
@@ -180,9 +180,9 @@ pub written_twice : {K : Type 0} (start middle now : Graph Ref K) (t j : ℕ) (a
     → (now.stopped ≡ start.stopped) × ((q : ℕ) → (q ≡ t → ⊥) → task_at now q ≡ task_at start q) × ((u : Unfinished Ref K) → task_at start t ≡ Some u → task_at now t ≡ Some (record u { inputs = set u.inputs j b }))
 written_twice {K} start middle now t j a b one two =
     let both : now ≡ with_task (with_task start t (λ u. record u { inputs = set u.inputs j a })) t (λ u. record u { inputs = set u.inputs j b }) = two ∙ ap (λ (g : Graph Ref K). with_task g t (λ u. record u { inputs = set u.inputs j b })) one in (
-    ap (λ (g : Graph Ref K). g.stopped) both,
-    λ q apart. ap (λ (g : Graph Ref K). task_at g q) both ∙ twice_other start t j a b q apart,
-    λ u is. ap (λ (g : Graph Ref K). task_at g t) both ∙ twice_here start t j a b u is,
+      ap (λ (g : Graph Ref K). g.stopped) both,
+      λ q apart. ap (λ (g : Graph Ref K). task_at g q) both ∙ twice_other start t j a b q apart,
+      λ u is. ap (λ (g : Graph Ref K). task_at g t) both ∙ twice_here start t j a b u is,
     )
 
 -- a task of a caller has an entry
@@ -203,11 +203,11 @@ module _ {K : Type 0} (parts : Parts K) (task to : ℕ) (e : Entry K) (whole : I
   movable c caller other there same = record {
     first = the_first;
     there = λ own that own_is that_is.
-    let h = whole.woven.home spot the_link.0 the_link.1 in
-    let one = same_some h.0 own (sym h.2 ∙ own_is) in
-    let two = same_some h.1 (head_of e) (sym h.3 ∙ ap (head_at (entries_at parts.entries)) the_link.2 ∙ ap (option_map head_of) is) in
-    let three = same_some (head_of other) that (sym (ap (option_map head_of) there) ∙ that_is) in
-    ap (λ (x : Head). x.caller) (sym three) ∙ same ∙ sym caller ∙ ap (λ (x : Head). x.caller) (sym two) ∙ h.4 ∙ ap (λ (x : Head). x.caller) one;
+        let h = whole.woven.home spot the_link.0 the_link.1 in
+        let one = same_some h.0 own (sym h.2 ∙ own_is) in
+        let two = same_some h.1 (head_of e) (sym h.3 ∙ ap (head_at (entries_at parts.entries)) the_link.2 ∙ ap (option_map head_of) is) in
+        let three = same_some (head_of other) that (sym (ap (option_map head_of) there) ∙ that_is) in
+        ap (λ (x : Head). x.caller) (sym three) ∙ same ∙ sym caller ∙ ap (λ (x : Head). x.caller) (sym two) ∙ h.4 ∙ ap (λ (x : Head). x.caller) one;
     other = (head_of other, ap (option_map head_of) there);
   }
 

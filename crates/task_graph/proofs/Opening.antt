@@ -105,10 +105,10 @@ module _ {K : Type 0} (parts : Parts K) (none : parts.entries.tasks.entries ≡ 
     short = λ q e is. absurd (not_none (entries_at parts.entries q) e (entry_none q) is);
     rows = len;
     counted = λ c row is.
-    let most = len-kept (is_run_for c) (tasks_of parts.entries.tasks.entries) in
-    let none_len = ap map.len none-tasks ∙ map.len-empty nat_cmp (Unfinished Ref K) in
-    let zero_run = ap (λ (r : Caller). r.running) (row_is c row is) in
-    omega arith;
+        let most = len-kept (is_run_for c) (tasks_of parts.entries.tasks.entries) in
+        let none_len = ap map.len none-tasks ∙ map.len-empty nat_cmp (Unfinished Ref K) in
+        let zero_run = ap (λ (r : Caller). r.running) (row_is c row is) in
+        omega arith;
   }
 
   pub none_runs : (q : ℕ) → IsRunnable (graph_of parts) q → ⊥

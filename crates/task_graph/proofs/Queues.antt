@@ -21,10 +21,10 @@ queued_put items new x perm q = sym (list_any-IsPermutation (λ (item : Reverse 
 
 not_less : (a b : ℕ) → is_lt (nat_cmp a b) ≡ false → b ≤ a
 not_less a b is = elim (nat_cmp a b) as (λ r. MatchOrdering r (a < b) (a ≡ b) (b < a) → is_lt r ≡ false → b ≤ a) [
-      | Less ↦ λ m none. absurd (cc)
-      | Equal ↦ λ m none. omega arith
-      | Greater ↦ λ m none. omega arith
-    ] (ranks a b) is
+  | Less ↦ λ m none. absurd (cc)
+  | Equal ↦ λ m none. omega arith
+  | Greater ↦ λ m none. omega arith
+] (ranks a b) is
 
 pub bound_of : (items : List (Reverse ℕ)) (x : Reverse ℕ) → IsUpperBound by_falling x items → (q : ℕ) → list_any (λ (item : Reverse ℕ). nat_eq q item.0) items ≡ true → x.0 ≤ q
 bound_of [] x bound q is = absurd (cc)

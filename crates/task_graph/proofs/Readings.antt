@@ -1,6 +1,7 @@
 -- What is read of the fields is so of the tasks.
-use Rattle.std.proofs.Common.{◌≡◌, ℕ, ◌+◌, ◌-◌, ◌<◌, ◌≤◌, Bool, true, false, cond, not, ◌&&◌, Option, Some, None, is_some, IsSome, nat_eq, refl, sym, ap, subst, ◌∙◌, ◌⊎◌, inl, inr, arith, List, length}
-use Rattle.std.specs.Prelude.{slice_get}
+use Rattle.std.proofs.Common.{◌≡◌, ℕ, ◌+◌, ◌-◌, ◌<◌, ◌≤◌, Bool, true, false, cond, not, ◌&&◌, Option, Some, None, is_some, IsSome, nat_eq, refl, sym, ap, subst, ◌∙◌, ◌⊎◌, inl, inr, arith, List, [], ◌∷◌, ◌||◌, length, zero, suc}
+use Rattle.std.specs.Prelude.{slice_get, IsTrue, ◌↔◌}
+use Rattle.std.specs.List.{list_any}
 use Rattle.std.specs.Option.{option_map}
 use Rattle.std.proofs.lemmas.Bool.{cases_lt}
 use Rattle.cht_ids.specs.declared.refs.Ref.{Ref}
@@ -16,7 +17,7 @@ use Rattle.task_graph.specs.Weave.{Leads}
 use Rattle.task_graph.specs.Order.{Bounds, row_at, IsTail}
 use Rattle.task_graph.specs.Graphs.{graph_of, IsWhole, IsHeld}
 use Rattle.task_graph.specs.Queue.{IsQueueLeast}
-use Rattle.task_graph.specs.Reading.{IsCeiling, HasWanted, rest_to}
+use Rattle.task_graph.specs.Reading.{IsCeiling, HasWanted, is_wanted, rest_to}
 use Rattle.task_graph.proofs.Chains.{not_none, row_with, same_key}
 use Rattle.task_graph.proofs.Weaving.{same_some, none_or_some}
 use Rattle.task_graph.proofs.Tying.{map_behind}
@@ -72,16 +73,18 @@ module _ {K : Type 0} (parts : Parts K) (whole : IsWhole parts) where
 
   ceiling_step : (c after at : ℕ) (next : Option ℕ) → Leads (row_at (station_at (entries_at parts.entries))) c (Some at) next → IsCeiling (graph_of parts) c after (Some at) → at ≤ after → IsCeiling (graph_of parts) c after next
   ceiling_step c after at None leads ceiling low = λ n of. elim (cases_lt at n) [
-        | inl more ↦ absurd (leads n n (row_of n c of) more)
-        | inr less ↦ omega arith
-      ]
+    | inl more ↦ absurd (leads n n (row_of n c of) more)
+    | inr less ↦ omega arith
+  ]
   ceiling_step c after at (Some m) leads ceiling low =
       let own = of_row m c leads.0 leads.1 in
-      let key = own.1 in
-      (own.0, λ n of less. elim (cases_lt at n) [
-        | inl more ↦ absurd (let least = leads.3 n n (row_of n c of) more in omega arith)
-        | inr below ↦ omega arith
-      ])
+      let key = own.1 in (
+        own.0,
+        λ n of less. elim (cases_lt at n) [
+          | inl more ↦ absurd (let least = leads.3 n n (row_of n c of) more in omega arith)
+          | inr below ↦ omega arith
+        ],
+      )
 
   pub ceiling_next : (c after : ℕ) (at : ℕ) (e : Entry K) → IsCeiling (graph_of parts) c after (Some at) → entries_at parts.entries at ≡ Some e → at ≤ after → IsCeiling (graph_of parts) c after e.after
   ceiling_next c after at e ceiling is low =
@@ -119,10 +122,13 @@ module _ {K : Type 0} (parts : Parts K) (whole : IsWhole parts) where
 
   -- a first task that is above
   pub found_above : (c after at : ℕ) → IsCeiling (graph_of parts) c after (Some at) → after < at → IsLeastOf (IsLater (graph_of parts) c after) (Some at)
-  found_above c after at ceiling more = ((ceiling.0, more), λ n later. elim (cases_lt n at) [
-        | inl less ↦ absurd (let low = ceiling.1 n later.0 less in let above = later.1 in omega arith)
-        | inr rest ↦ rest
-      ])
+  found_above c after at ceiling more = (
+    (ceiling.0, more),
+    λ n later. elim (cases_lt n at) [
+      | inl less ↦ absurd (let low = ceiling.1 n later.0 less in let above = later.1 in omega arith)
+      | inr rest ↦ rest
+    ],
+  )
 
   pub none_above : (c after : ℕ) → IsCeiling (graph_of parts) c after None → IsLeastOf (IsLater (graph_of parts) c after) None
   none_above c after ceiling = λ n later. let low = ceiling n later.0 in let above = later.1 in omega arith
@@ -155,3 +161,35 @@ module _ {K : Type 0} (parts : Parts K) (whole : IsWhole parts) where
 pub input_there : {K : Type 0} (parts : Parts K) (q : ℕ) (e : Entry K) (place : ℕ) → entries_at parts.entries q ≡ Some e → option_map shown_place (slice_get (inputs_of e) place) ≡ input_at (graph_of parts) q place
 input_there {K} parts q e place is =
     sym (get_each shown_place (inputs_of e) place) ∙ sym (ap (λ (o : Option (Unfinished Ref K)). elim o as (λ _. Option (Input Ref)) [ None ↦ None | Some unfinished ↦ slice_get unfinished.inputs place ]) (task_there parts q e is))
+
+both_from : (a b : Bool) → (not a && b) ≡ true → (a ≡ false) × (b ≡ true)
+both_from true b is = absurd (cc)
+both_from false b is = (refl, is)
+
+both_to : (a b : Bool) → a ≡ false → b ≡ true → (not a && b) ≡ true
+both_to true b one two = absurd (cc)
+both_to false b one two = two
+
+wanted_list : (rows : List Caller) → list_any is_wanted rows ≡ true → HasWanted rows
+wanted_list [] is = absurd (cc)
+wanted_list (row ∷ rows) is =
+    elim (is_wanted row) as (λ b. is_wanted row ≡ b → (b || list_any is_wanted rows) ≡ true → HasWanted (row ∷ rows)) [
+      | true ↦ λ here _. let b = both_from row.stopped (is_some row.first) here in (0, row, refl, b.0, b.1)
+      | false ↦ λ _ rest. let w = wanted_list rows rest in (suc w.0, w.1, w.2, w.3, w.4)
+    ] refl is
+
+or_true : (a : Bool) → (a || true) ≡ true
+or_true true = refl
+or_true false = refl
+
+list_wanted : (rows : List Caller) (i : ℕ) (row : Caller) → slice_get rows i ≡ Some row → row.stopped ≡ false → IsSome row.first → list_any is_wanted rows ≡ true
+list_wanted [] i row at one two = absurd (not_none None row refl at)
+list_wanted (r ∷ rows) zero row at one two = ap (λ (x : Caller). is_wanted x || list_any is_wanted rows) (same_some r row at) ∙ ap (λ b. b || list_any is_wanted rows) (both_to row.stopped (is_some row.first) one two)
+list_wanted (r ∷ rows) (suc i) row at one two = ap (λ b. is_wanted r || b) (list_wanted rows i row at one two) ∙ or_true (is_wanted r)
+
+-- whether a caller that is not stopped has a task
+pub any_iff : {K : Type 0} (parts : Parts K) (b : Bool) → IsWhole parts → b ≡ list_any is_wanted parts.callers.rows → IsTrue b ↔ ((task : ℕ) × IsWanted (graph_of parts) task)
+any_iff parts b whole is = (
+  λ yes_it. wanted_from parts whole (wanted_list parts.callers.rows (sym is ∙ yes_it)),
+  λ w. is ∙ (let h = wanted_to parts whole w.0 w.1 in list_wanted parts.callers.rows h.0 h.1 h.2 h.3 h.4),
+)

@@ -69,9 +69,9 @@ module _ {K : Type 0} (entries : List (ℕ × Entry K)) where
     queued = λ i k entry at ready. elim (get_one r.front (q, e) i (k, entry) at) [
       | inl before ↦ kept k (r.queued i k entry before ready)
       | inr same ↦
-        let key : q ≡ k = ap (λ (p : ℕ × Entry K). p.0) same in
-        let value : e ≡ entry = ap (λ (p : ℕ × Entry K). p.1) same in
-        subst (λ n. is_queued n new ≡ true) key (here (ap (λ x. status_of (shown_entry x)) value ∙ ready))
+          let key : q ≡ k = ap (λ (p : ℕ × Entry K). p.0) same in
+          let value : e ≡ entry = ap (λ (p : ℕ × Entry K). p.1) same in
+          subst (λ n. is_queued n new ≡ true) key (here (ap (λ x. status_of (shown_entry x)) value ∙ ready))
     ];
   }
 

@@ -46,8 +46,8 @@ zero_for : {b : Bool} (r : Bool) → b ≡ false → ◌≡◌ {A = ℕ} (cond (
 zero_for r test = ap (λ b. one_if (b && r)) test
 
 module _ {K : Type 0} (old new : Parts K) (task : ℕ) (entry : Entry K) (runner asked : Option ℕ) (count : ℕ) (whole : IsWhole old) (is : entries_at old.entries task ≡ Some entry) (revised : IsRevised old task entry runner asked count)
-  (puts : (q : ℕ) → entries_at new.entries q ≡ put_in task (record entry { runner = runner; asked = asked }) (entries_at old.entries) q)
-  (rows : (q : ℕ) → caller_at new.callers q ≡ option_map (with_running_at q entry.caller count) (caller_at old.callers q)) (len : length new.callers.rows ≡ length old.callers.rows) where
+    (puts : (q : ℕ) → entries_at new.entries q ≡ put_in task (record entry { runner = runner; asked = asked }) (entries_at old.entries) q)
+    (rows : (q : ℕ) → caller_at new.callers q ≡ option_map (with_running_at q entry.caller count) (caller_at old.callers q)) (len : length new.callers.rows ≡ length old.callers.rows) where
   here : entries_at new.entries task ≡ Some (record entry { runner = runner; asked = asked })
   here = puts task ∙ ap (λ b. cond b (Some (record entry { runner = runner; asked = asked })) (entries_at old.entries task)) (test_same task)
 
@@ -78,12 +78,12 @@ module _ {K : Type 0} (old new : Parts K) (task : ℕ) (entry : Entry K) (runner
   heads q =
       elim (same_or_not q task) [
         | inl at ↦
-          let test : nat_eq q task ≡ true = ap (λ t. nat_eq t task) at ∙ test_same task in
-          ap (head_at (entries_at new.entries)) at ∙ ap (option_map head_of) here
-          ∙ sym (ap (option_map (change q)) (ap (head_at (entries_at old.entries)) at ∙ ap (option_map head_of) is) ∙ ap (λ b. Some (record (head_of entry) { runner = cond b runner entry.runner; asked = cond b asked entry.asked })) test)
+            let test : nat_eq q task ≡ true = ap (λ t. nat_eq t task) at ∙ test_same task in
+            ap (head_at (entries_at new.entries)) at ∙ ap (option_map head_of) here
+            ∙ sym (ap (option_map (change q)) (ap (head_at (entries_at old.entries)) at ∙ ap (option_map head_of) is) ∙ ap (λ b. Some (record (head_of entry) { runner = cond b runner entry.runner; asked = cond b asked entry.asked })) test)
         | inr apart ↦
-          let test = test_apart q task apart in
-          ap (option_map head_of) (other q apart) ∙ sym (unchanged q test (head_at (entries_at old.entries) q))
+            let test = test_apart q task apart in
+            ap (option_map head_of) (other q apart) ∙ sym (unchanged q test (head_at (entries_at old.entries) q))
       ]
 
   woven : IsWoven (head_at (entries_at new.entries)) (link_at (entries_at new.entries))
@@ -96,11 +96,11 @@ module _ {K : Type 0} (old new : Parts K) (task : ℕ) (entry : Entry K) (runner
       ])
       (λ p l q h n there head_is asked_is number. elim (same_or_not q task) [
         | inl at ↦
-          let now : asked ≡ Some n = sym (ap (λ b. cond b asked h.asked) (ap (λ t. nat_eq t task) at ∙ test_same task)) ∙ asked_is in
-          elim (revised.free n now) [
-            | inl unused ↦ unused p l there number
-            | inr before ↦ whole.woven.asked_apart p l task (head_of entry) n there (ap (option_map head_of) is) before number
-          ]
+            let now : asked ≡ Some n = sym (ap (λ b. cond b asked h.asked) (ap (λ t. nat_eq t task) at ∙ test_same task)) ∙ asked_is in
+            elim (revised.free n now) [
+              | inl unused ↦ unused p l there number
+              | inr before ↦ whole.woven.asked_apart p l task (head_of entry) n there (ap (option_map head_of) is) before number
+            ]
         | inr apart ↦ whole.woven.asked_apart p l q h n there head_is (sym (ap (λ b. cond b asked h.asked) (test_apart q task apart)) ∙ asked_is) number
       ])
 
@@ -115,9 +115,9 @@ module _ {K : Type 0} (old new : Parts K) (task : ℕ) (entry : Entry K) (runner
       task_is new q
       ∙ elim (same_or_not q task) [
         | inl at ↦ ap (shown_at (entries_at new.entries)) at ∙ ap (option_map shown_entry) here
-          ∙ sym (ap (λ b. cond b (Some (record (shown_entry entry) { runner = runner; asked = asked })) (map.get (tasks_of old.entries.tasks.entries) q)) (ap (λ t. nat_eq t task) at ∙ test_same task))
+            ∙ sym (ap (λ b. cond b (Some (record (shown_entry entry) { runner = runner; asked = asked })) (map.get (tasks_of old.entries.tasks.entries) q)) (ap (λ t. nat_eq t task) at ∙ test_same task))
         | inr apart ↦ ap (option_map shown_entry) (other q apart) ∙ sym (task_is old q)
-          ∙ sym (ap (λ b. cond b (Some (record (shown_entry entry) { runner = runner; asked = asked })) (map.get (tasks_of old.entries.tasks.entries) q)) (test_apart q task apart))
+            ∙ sym (ap (λ b. cond b (Some (record (shown_entry entry) { runner = runner; asked = asked })) (map.get (tasks_of old.entries.tasks.entries) q)) (test_apart q task apart))
       ]
       ∙ sym (get_inserted (tasks_of old.entries.tasks.entries) task (record (shown_entry entry) { runner = runner; asked = asked }) q))
 
@@ -149,16 +149,16 @@ module _ {K : Type 0} (old new : Parts K) (task : ℕ) (entry : Entry K) (runner
     ];
     rows = len ∙ whole.rows;
     counted = λ c row at.
-    let b = map_behind (with_running_at c entry.caller count) (caller_at old.callers c) row (sym (rows c) ∙ at) in
-    let moved = count_of c in
-    let before = whole.counted c b.0 b.1 in
-    ap (λ (r : Caller). r.running) (sym b.2) ∙ elim (same_or_not c entry.caller) [
-      | inl same ↦
-        let now = revised.counted b.0 (sym (ap (caller_at old.callers) same) ∙ b.1) in
-        let here_count = subst (λ d. count + run_for d (shown_entry entry) ≡ b.0.running + run_for d (record (shown_entry entry) { runner = runner; asked = asked })) (sym same) now in
-        ap (λ t. cond t count b.0.running) (ap (λ t. nat_eq t entry.caller) same ∙ test_same entry.caller) ∙ omega arith
-      | inr apart ↦
-        let none = other_caller c apart in
-        ap (λ t. cond t count b.0.running) (test_apart c entry.caller apart) ∙ omega arith
-    ];
+        let b = map_behind (with_running_at c entry.caller count) (caller_at old.callers c) row (sym (rows c) ∙ at) in
+        let moved = count_of c in
+        let before = whole.counted c b.0 b.1 in
+        ap (λ (r : Caller). r.running) (sym b.2) ∙ elim (same_or_not c entry.caller) [
+          | inl same ↦
+              let now = revised.counted b.0 (sym (ap (caller_at old.callers) same) ∙ b.1) in
+              let here_count = subst (λ d. count + run_for d (shown_entry entry) ≡ b.0.running + run_for d (record (shown_entry entry) { runner = runner; asked = asked })) (sym same) now in
+              ap (λ t. cond t count b.0.running) (ap (λ t. nat_eq t entry.caller) same ∙ test_same entry.caller) ∙ omega arith
+          | inr apart ↦
+              let none = other_caller c apart in
+              ap (λ t. cond t count b.0.running) (test_apart c entry.caller apart) ∙ omega arith
+        ];
   }

@@ -64,8 +64,8 @@ module _ {K : Type 0} (graph : Graph Ref K) where
   runs_same t q change same runs =
       elim (runs_changed t q change runs) [
         | inl at ↦
-          let o = own_changed t q change runs at in
-          runs_from graph q o.0 o.1 (sym (same o.0).0 ∙ ap status_of o.2 ∙ ready_of (with_task graph t change) q runs) (ap (is_stopped graph) (sym (same o.0).1 ∙ ap (λ (u : Unfinished Ref K). u.caller) o.2) ∙ runs.not_stopped)
+            let o = own_changed t q change runs at in
+            runs_from graph q o.0 o.1 (sym (same o.0).0 ∙ ap status_of o.2 ∙ ready_of (with_task graph t change) q runs) (ap (is_stopped graph) (sym (same o.0).1 ∙ ap (λ (u : Unfinished Ref K). u.caller) o.2) ∙ runs.not_stopped)
         | inr before ↦ before
       ]
 
@@ -78,8 +78,8 @@ module _ {K : Type 0} (graph : Graph Ref K) where
   runs_started t q worker runs =
       elim (runs_changed t q (λ u. record u { runner = Some worker }) runs) [
         | inl at ↦
-          let o = own_changed t q (λ u. record u { runner = Some worker }) runs at in
-          absurd (never_ready (list_any is_awaiting o.0.inputs) (ap status_of o.2 ∙ ready_of (with_task graph t (λ u. record u { runner = Some worker })) q runs))
+            let o = own_changed t q (λ u. record u { runner = Some worker }) runs at in
+            absurd (never_ready (list_any is_awaiting o.0.inputs) (ap status_of o.2 ∙ ready_of (with_task graph t (λ u. record u { runner = Some worker })) q runs))
         | inr before ↦ before
       ]
 

@@ -38,9 +38,9 @@ map_behind f None y is = absurd (not_none None y refl is)
 map_behind f (Some x) y is = (x, refl, same_some (f x) y is)
 
 module _ (bounds new_bounds : ℕ → Option Bounds) (stations middle new : ℕ → Option Station) (n caller : ℕ) (before after to_after to_before : Option ℕ)
-  (rest : (q : ℕ) → (q ≡ n → ⊥) → middle q ≡ stations q)
-  (made : (q : ℕ) → new q ≡ option_map (with_before_at q after to_before) (option_map (with_after_at q before to_after) (middle q)))
-  (bound : (q : ℕ) → new_bounds q ≡ option_map (with_last_at q caller after to_before) (option_map (with_first_at q caller before to_after) (bounds q))) where
+    (rest : (q : ℕ) → (q ≡ n → ⊥) → middle q ≡ stations q)
+    (made : (q : ℕ) → new q ≡ option_map (with_before_at q after to_before) (option_map (with_after_at q before to_after) (middle q)))
+    (bound : (q : ℕ) → new_bounds q ≡ option_map (with_last_at q caller after to_before) (option_map (with_first_at q caller before to_after) (bounds q))) where
   both_maps : (q : ℕ) (o : Option Station) → option_map (with_before_at q after to_before) (option_map (with_after_at q before to_after) o) ≡ option_map (λ s. with_before_at q after to_before (with_after_at q before to_after s)) o
   both_maps q None = refl
   both_maps q (Some s) = refl
@@ -80,20 +80,20 @@ module _ (bounds new_bounds : ℕ → Option Bounds) (stations middle new : ℕ 
   pub spliced : IsSpliced bounds new_bounds stations new n caller before after to_after to_before
   spliced = record {
     from = λ q s apart is.
-    let behind = map_behind (λ t. with_before_at q after to_before (with_after_at q before to_after t)) (stations q) s (sym (changed q apart) ∙ is) in
-    (behind.0, behind.1, restationed q behind.0 s behind.2);
+        let behind = map_behind (λ t. with_before_at q after to_before (with_after_at q before to_after t)) (stations q) s (sym (changed q apart) ∙ is) in
+        (behind.0, behind.1, restationed q behind.0 s behind.2);
     to = λ q s apart is. (
-    with_before_at q after to_before (with_after_at q before to_after s),
-    changed q apart ∙ ap (option_map (λ t. with_before_at q after to_before (with_after_at q before to_after t))) is,
-    restationed q s _ refl,
+      with_before_at q after to_before (with_after_at q before to_after s),
+      changed q apart ∙ ap (option_map (λ t. with_before_at q after to_before (with_after_at q before to_after t))) is,
+      restationed q s _ refl,
     );
     bounds_from = λ q b is.
-    let behind = map_behind (λ t. with_last_at q caller after to_before (with_first_at q caller before to_after t)) (bounds q) b (sym (bound q ∙ both_bounds q (bounds q)) ∙ is) in
-    (behind.0, behind.1, rebound q behind.0 b behind.2);
+        let behind = map_behind (λ t. with_last_at q caller after to_before (with_first_at q caller before to_after t)) (bounds q) b (sym (bound q ∙ both_bounds q (bounds q)) ∙ is) in
+        (behind.0, behind.1, rebound q behind.0 b behind.2);
     bounds_to = λ q b is. (
-    with_last_at q caller after to_before (with_first_at q caller before to_after b),
-    bound q ∙ both_bounds q (bounds q) ∙ ap (option_map (λ t. with_last_at q caller after to_before (with_first_at q caller before to_after t))) is,
-    rebound q b _ refl,
+      with_last_at q caller after to_before (with_first_at q caller before to_after b),
+      bound q ∙ both_bounds q (bounds q) ∙ ap (option_map (λ t. with_last_at q caller after to_before (with_first_at q caller before to_after t))) is,
+      rebound q b _ refl,
     );
   }
 

@@ -45,10 +45,10 @@ module _ {K : Type 0} (old : Parts K) (caller : ℕ) (whole : IsWhole old) where
     some = λ q e there. inr (λ of before. never q e there of row.first (whole.ordered.firsts caller (bounds_of row) (ap (option_map bounds_of) is)) before, there);
     none = λ q there. there;
     next_is = λ task first.
-    let leads : Leads (row_at (station_at (entries_at old.entries))) caller None (Some task) = subst (Leads (row_at (station_at (entries_at old.entries))) caller None) first (whole.ordered.firsts caller (bounds_of row) (ap (option_map bounds_of) is)) in
-    let s = station_of_row (station_at (entries_at old.entries)) task caller leads.0 leads.1 in
-    let e = map_behind station_of (entries_at old.entries task) s.0 s.1 in
-    (e.0, e.1, ap (λ (x : Station). x.caller) e.2 ∙ s.2);
+        let leads : Leads (row_at (station_at (entries_at old.entries))) caller None (Some task) = subst (Leads (row_at (station_at (entries_at old.entries))) caller None) first (whole.ordered.firsts caller (bounds_of row) (ap (option_map bounds_of) is)) in
+        let s = station_of_row (station_at (entries_at old.entries)) task caller leads.0 leads.1 in
+        let e = map_behind station_of (entries_at old.entries task) s.0 s.1 in
+        (e.0, e.1, ap (λ (x : Station). x.caller) e.2 ∙ s.2);
   }
 
   -- what stands before the next one but one is before the next one, or it
@@ -81,13 +81,13 @@ module _ {K : Type 0} (old : Parts K) (caller : ℕ) (whole : IsWhole old) where
   pub next_there : (now : Parts K) (p : ℕ) → IsSwept old now caller (Some p) → (e : Entry K) × (entries_at old.entries p ≡ Some e) × (e.caller ≡ caller) × (entries_at now.entries p ≡ Some e)
   next_there now p swept =
       let e = swept.next_is p refl in (
-      e.0,
-      e.1,
-      e.2,
-      elim (swept.some p e.0 e.1) [
-        | inl gone ↦ absurd (let clash = gone.1 in omega arith)
-        | inr kept ↦ kept.1
-      ],
+        e.0,
+        e.1,
+        e.2,
+        elim (swept.some p e.0 e.1) [
+          | inl gone ↦ absurd (let clash = gone.1 in omega arith)
+          | inr kept ↦ kept.1
+        ],
       )
 
   -- one more is gone
@@ -100,26 +100,26 @@ module _ {K : Type 0} (old : Parts K) (caller : ℕ) (whole : IsWhole old) where
       record {
         some = λ q f at. elim (same_or_not q p) [
           | inl same ↦
-            let two = same_some e f (sym is ∙ ap (entries_at old.entries) (sym same) ∙ at) in
-            inl (ap (λ (x : Entry K). x.caller) (sym two) ∙ of, next_above p e is e.after refl q (omega arith), takes q ∙ ap (λ b. cond b None (entries_at now.entries q)) (ap (λ r. nat_eq r p) same ∙ test_same p))
+              let two = same_some e f (sym is ∙ ap (entries_at old.entries) (sym same) ∙ at) in
+              inl (ap (λ (x : Entry K). x.caller) (sym two) ∙ of, next_above p e is e.after refl q (omega arith), takes q ∙ ap (λ b. cond b None (entries_at now.entries q)) (ap (λ r. nat_eq r p) same ∙ test_same p))
           | inr apart ↦
-            let kept : entries_at next.entries q ≡ entries_at now.entries q = takes q ∙ ap (λ b. cond b None (entries_at now.entries q)) (test_apart q p apart) in
-            elim (swept.some q f at) [
-              | inl gone ↦ inl (gone.0, (let low = gone.1 in next_above p e is e.after refl q (omega arith)), kept ∙ gone.2)
-              | inr stays ↦ inr (λ same before. stays.0 same (let low = before_next p e is of q f at same e.after refl before in omega arith), kept ∙ stays.1)
-            ]
+              let kept : entries_at next.entries q ≡ entries_at now.entries q = takes q ∙ ap (λ b. cond b None (entries_at now.entries q)) (test_apart q p apart) in
+              elim (swept.some q f at) [
+                | inl gone ↦ inl (gone.0, (let low = gone.1 in next_above p e is e.after refl q (omega arith)), kept ∙ gone.2)
+                | inr stays ↦ inr (λ same before. stays.0 same (let low = before_next p e is of q f at same e.after refl before in omega arith), kept ∙ stays.1)
+              ]
         ];
         none = λ q at. takes q ∙ elim (nat_eq q p) as (λ b. cond b None (entries_at now.entries q) ≡ None) [ true ↦ refl | false ↦ swept.none q at ];
         next_is = λ n at.
-        let leads : Leads (row_at (station_at (entries_at old.entries))) e.caller (Some p) (Some n) = subst (Leads (row_at (station_at (entries_at old.entries))) e.caller (Some p)) at (whole.ordered.afters p (station_of e) (ap (option_map station_of) is)) in
-        let s = station_of_row (station_at (entries_at old.entries)) n e.caller leads.0 leads.1 in
-        let x = map_behind station_of (entries_at old.entries n) s.0 s.1 in
-        (x.0, x.1, ap (λ (y : Station). y.caller) x.2 ∙ s.2 ∙ of);
+            let leads : Leads (row_at (station_at (entries_at old.entries))) e.caller (Some p) (Some n) = subst (Leads (row_at (station_at (entries_at old.entries))) e.caller (Some p)) at (whole.ordered.afters p (station_of e) (ap (option_map station_of) is)) in
+            let s = station_of_row (station_at (entries_at old.entries)) n e.caller leads.0 leads.1 in
+            let x = map_behind station_of (entries_at old.entries n) s.0 s.1 in
+            (x.0, x.1, ap (λ (y : Station). y.caller) x.2 ∙ s.2 ∙ of);
       }
 
 -- once all are gone
 module _ {K : Type 0} (old now new : Parts K) (caller : ℕ) (whole : IsWhole old) (swept : IsSwept old now caller None) (same : new.entries ≡ now.entries) (kept_rows : now.callers ≡ old.callers)
-  (puts : (q : ℕ) → caller_at new.callers q ≡ cond (nat_eq q caller) (Some (record { first = None; last = None; running = 0; stopped = false })) (caller_at now.callers q)) (len : length new.callers.rows ≡ length now.callers.rows) where
+    (puts : (q : ℕ) → caller_at new.callers q ≡ cond (nat_eq q caller) (Some (record { first = None; last = None; running = 0; stopped = false })) (caller_at now.callers q)) (len : length new.callers.rows ≡ length now.callers.rows) where
   as_now : (q : ℕ) → entries_at new.entries q ≡ entries_at now.entries q
   as_now q = ap (λ es. entries_at es q) same
 
@@ -130,8 +130,8 @@ module _ {K : Type 0} (old now new : Parts K) (caller : ℕ) (whole : IsWhole ol
         | inr some ↦ elim (swept.some q some.0 some.1) [
           | inl gone ↦ absurd (not_none (entries_at new.entries q) e (as_now q ∙ gone.2) is)
           | inr stays ↦
-            let one : some.0 ≡ e = same_some some.0 e (sym stays.1 ∙ sym (as_now q) ∙ is) in
-            (some.1 ∙ ap Some one, λ of. stays.0 (ap (λ (x : Entry K). x.caller) one ∙ of) tt)
+              let one : some.0 ≡ e = same_some some.0 e (sym stays.1 ∙ sym (as_now q) ∙ is) in
+              (some.1 ∙ ap Some one, λ of. stays.0 (ap (λ (x : Entry K). x.caller) one ∙ of) tt)
         ]
       ]
 
@@ -195,8 +195,8 @@ module _ {K : Type 0} (old now new : Parts K) (caller : ℕ) (whole : IsWhole ol
   bounds_from c own is =
       elim (same_or_not c caller) [
         | inl here ↦
-          let one = same_some _ own (sym (ap (option_map bounds_of) (ap (caller_at new.callers) here ∙ row_here)) ∙ is) in
-          inl (here, ap (λ (b : Bounds). b.first) (sym one), ap (λ (b : Bounds). b.last) (sym one))
+            let one = same_some _ own (sym (ap (option_map bounds_of) (ap (caller_at new.callers) here ∙ row_here)) ∙ is) in
+            inl (here, ap (λ (b : Bounds). b.first) (sym one), ap (λ (b : Bounds). b.last) (sym one))
         | inr apart ↦ inr (apart, sym (ap (option_map bounds_of) (row_other c apart)) ∙ is)
       ]
 
@@ -215,21 +215,21 @@ module _ {K : Type 0} (old now new : Parts K) (caller : ℕ) (whole : IsWhole ol
   shown_from q =
       elim (none_or_some (entries_at old.entries q)) [
         | inl none ↦
-          task_is new q ∙ ap (option_map shown_entry) (as_now q ∙ swept.none q none)
-          ∙ sym (ap (option_and_then (λ (value : Unfinished Ref K). cond (not (nat_eq value.caller caller)) (Some value) None)) (task_is old q ∙ ap (option_map shown_entry) none))
+            task_is new q ∙ ap (option_map shown_entry) (as_now q ∙ swept.none q none)
+            ∙ sym (ap (option_and_then (λ (value : Unfinished Ref K). cond (not (nat_eq value.caller caller)) (Some value) None)) (task_is old q ∙ ap (option_map shown_entry) none))
         | inr some ↦
-          let was = task_there old q some.0 some.1 in
-          elim (same_or_not some.0.caller caller) [
-            | inl of ↦ elim (swept.some q some.0 some.1) [
-              | inl gone ↦
-                task_is new q ∙ ap (option_map shown_entry) (as_now q ∙ gone.2)
-                ∙ sym (ap (option_and_then (λ (value : Unfinished Ref K). cond (not (nat_eq value.caller caller)) (Some value) None)) was ∙ ap (λ b. cond (not b) (Some (shown_entry some.0)) None) (ap (λ r. nat_eq r caller) of ∙ test_same caller))
-              | inr stays ↦ absurd (stays.0 of tt)
+            let was = task_there old q some.0 some.1 in
+            elim (same_or_not some.0.caller caller) [
+              | inl of ↦ elim (swept.some q some.0 some.1) [
+                | inl gone ↦
+                    task_is new q ∙ ap (option_map shown_entry) (as_now q ∙ gone.2)
+                    ∙ sym (ap (option_and_then (λ (value : Unfinished Ref K). cond (not (nat_eq value.caller caller)) (Some value) None)) was ∙ ap (λ b. cond (not b) (Some (shown_entry some.0)) None) (ap (λ r. nat_eq r caller) of ∙ test_same caller))
+                | inr stays ↦ absurd (stays.0 of tt)
+              ]
+              | inr apart ↦
+                  task_there new q some.0 (to q some.0 some.1 apart)
+                  ∙ sym (ap (option_and_then (λ (value : Unfinished Ref K). cond (not (nat_eq value.caller caller)) (Some value) None)) was ∙ ap (λ b. cond (not b) (Some (shown_entry some.0)) None) (test_apart some.0.caller caller apart))
             ]
-            | inr apart ↦
-              task_there new q some.0 (to q some.0 some.1 apart)
-              ∙ sym (ap (option_and_then (λ (value : Unfinished Ref K). cond (not (nat_eq value.caller caller)) (Some value) None)) was ∙ ap (λ b. cond (not b) (Some (shown_entry some.0)) None) (test_apart some.0.caller caller apart))
-          ]
       ]
 
   pub swept_tasks : tasks_of new.entries.tasks.entries ≡ kept (λ task. not (nat_eq task.caller caller)) (tasks_of old.entries.tasks.entries)
@@ -251,17 +251,17 @@ module _ {K : Type 0} (old now new : Parts K) (caller : ℕ) (whole : IsWhole ol
   runs_none : (u : Option (Unfinished Ref K)) → option_and_then (λ value. cond (is_run_for caller value) (Some value) None) (option_and_then (λ value. cond (not (nat_eq value.caller caller)) (Some value) None) u) ≡ None
   runs_none None = refl
   runs_none (Some u) = elim (nat_eq u.caller caller) as (λ b. nat_eq u.caller caller ≡ b → option_and_then (λ (value : Unfinished Ref K). cond (is_run_for caller value) (Some value) None) (cond (not b) (Some u) None) ≡ None) [
-        | true ↦ λ test. refl
-        | false ↦ λ test. ap (λ b. cond (b && is_running (status_of u)) (Some u) None) test
-      ] refl
+    | true ↦ λ test. refl
+    | false ↦ λ test. ap (λ b. cond (b && is_running (status_of u)) (Some u) None) test
+  ] refl
 
   runs_same : (c : ℕ) → (c ≡ caller → ⊥) → (u : Option (Unfinished Ref K)) → option_and_then (λ value. cond (is_run_for c value) (Some value) None) (option_and_then (λ value. cond (not (nat_eq value.caller caller)) (Some value) None) u) ≡ option_and_then (λ value. cond (is_run_for c value) (Some value) None) u
   runs_same c apart None = refl
   runs_same c apart (Some u) =
       elim (same_or_not u.caller caller) [
         | inl of ↦
-          ap (λ b. option_and_then (λ (value : Unfinished Ref K). cond (is_run_for c value) (Some value) None) (cond (not b) (Some u) None)) (ap (λ r. nat_eq r caller) of ∙ test_same caller)
-          ∙ sym (ap (λ b. cond (b && is_running (status_of u)) (Some u) None) (test_apart u.caller c (λ same. apart (sym same ∙ of))))
+            ap (λ b. option_and_then (λ (value : Unfinished Ref K). cond (is_run_for c value) (Some value) None) (cond (not b) (Some u) None)) (ap (λ r. nat_eq r caller) of ∙ test_same caller)
+            ∙ sym (ap (λ b. cond (b && is_running (status_of u)) (Some u) None) (test_apart u.caller c (λ same. apart (sym same ∙ of))))
         | inr other ↦ ap (λ b. option_and_then (λ (value : Unfinished Ref K). cond (is_run_for c value) (Some value) None) (cond (not b) (Some u) None)) (test_apart u.caller caller other)
       ]
 
@@ -282,18 +282,18 @@ module _ {K : Type 0} (old now new : Parts K) (caller : ℕ) (whole : IsWhole ol
     woven = left-woven (head_at (entries_at old.entries)) (head_at (entries_at new.entries)) (link_at (entries_at old.entries)) (link_at (entries_at new.entries)) whole.woven (record {
       was = λ p l is. (link_from p l is).2;
       stays = λ p l h is there.
-      let home = whole.woven.home p l is in
-      let e = map_behind head_of (entries_at old.entries p.task) home.0 home.2 in
-      let awaited = head_from l.task h there in
-      let two = same_some home.1 h (sym home.3 ∙ awaited.0) in
-      link_to p l e.0 is e.1 (λ of. awaited.1 (ap (λ (x : Head). x.caller) (sym two) ∙ home.4 ∙ ap (λ (x : Head). x.caller) (sym e.2) ∙ of));
+          let home = whole.woven.home p l is in
+          let e = map_behind head_of (entries_at old.entries p.task) home.0 home.2 in
+          let awaited = head_from l.task h there in
+          let two = same_some home.1 h (sym home.3 ∙ awaited.0) in
+          link_to p l e.0 is e.1 (λ of. awaited.1 (ap (λ (x : Head). x.caller) (sym two) ∙ home.4 ∙ ap (λ (x : Head). x.caller) (sym e.2) ∙ of));
       home = λ p l is.
-      let f = link_from p l is in
-      let home = whole.woven.home p l f.2 in
-      let e = from p.task f.0 f.1 in
-      let one = same_some (head_of f.0) home.0 (sym (ap (option_map head_of) e.0) ∙ home.2) in
-      let apart : home.0.caller ≡ caller → ⊥ = λ of. e.1 (ap (λ (x : Head). x.caller) one ∙ of) in
-      (home.0, home.1, head_to p.task home.0 home.2 apart, head_to l.task home.1 home.3 (λ of. apart (sym home.4 ∙ of)), home.4, home.5);
+          let f = link_from p l is in
+          let home = whole.woven.home p l f.2 in
+          let e = from p.task f.0 f.1 in
+          let one = same_some (head_of f.0) home.0 (sym (ap (option_map head_of) e.0) ∙ home.2) in
+          let apart : home.0.caller ≡ caller → ⊥ = λ of. e.1 (ap (λ (x : Head). x.caller) one ∙ of) in
+          (home.0, home.1, head_to p.task home.0 home.2 apart, head_to l.task home.1 home.3 (λ of. apart (sym home.4 ∙ of)), home.4, home.5);
       lists = λ q h is. inl (h, (head_from q h is).0, refl, refl);
       asked_apart = λ p l q h n is there asked number. whole.woven.asked_apart p l q h n (link_from p l is).2 (head_from q h there).0 asked number;
     });

@@ -35,9 +35,9 @@ map_behind f None y is = absurd (not_none None y refl is)
 map_behind f (Some x) y is = (x, refl, same_some (f x) y is)
 
 module _ (heads new_heads : ℕ → Option Head) (links new_links : Spot → Option Link) (spot : Spot) (link : Link) (before : Option Spot) (own : Head)
-  (free : links spot ≡ None) (gap : IsGap heads links link.task link.number before link.next) (own_is : heads link.task ≡ Some own)
-  (made_links : (p : Spot) → new_links p ≡ option_map (with_next_at p before (Some spot)) (cond (is_spot p spot) (Some link) (links p)))
-  (made_heads : (q : ℕ) → new_heads q ≡ option_map (with_ends q link.task (instead before spot own.first) (instead link.next spot own.last)) (heads q)) where
+    (free : links spot ≡ None) (gap : IsGap heads links link.task link.number before link.next) (own_is : heads link.task ≡ Some own)
+    (made_links : (p : Spot) → new_links p ≡ option_map (with_next_at p before (Some spot)) (cond (is_spot p spot) (Some link) (links p)))
+    (made_heads : (q : ℕ) → new_heads q ≡ option_map (with_ends q link.task (instead before spot own.first) (instead link.next spot own.last)) (heads q)) where
   linked : (before : Option Spot) → IsGap heads links link.task link.number before link.next → before ≡ Some spot → ⊥
   linked None gap is = not_none None spot refl is
   linked (Some p) gap is = not_none (links spot) gap.0 free (sym (ap links (same_some p spot is)) ∙ gap.1)
@@ -47,9 +47,9 @@ module _ (heads new_heads : ℕ → Option Head) (links new_links : Spot → Opt
       elim (at_or_not spot before) [
         | inl at ↦ absurd (linked before gap at.0)
         | inr apart ↦
-          made_links spot
-          ∙ ap (λ b. option_map (with_next_at spot before (Some spot)) (cond b (Some link) (links spot))) (spot_same spot)
-          ∙ ap (λ b. Some (record link { next = cond b (Some spot) link.next })) apart.1
+            made_links spot
+            ∙ ap (λ b. option_map (with_next_at spot before (Some spot)) (cond b (Some link) (links spot))) (spot_same spot)
+            ∙ ap (λ b. Some (record link { next = cond b (Some spot) link.next })) apart.1
       ]
 
   made_other : (p : Spot) → (p ≡ spot → ⊥) → new_links p ≡ option_map (with_next_at p before (Some spot)) (links p)
@@ -74,13 +74,13 @@ module _ (heads new_heads : ℕ → Option Head) (links new_links : Spot → Opt
   put_first q b old first is made =
       elim (same_or_not q link.task) [
         | inl same ↦
-          let test : nat_eq q link.task ≡ true = ap (λ t. nat_eq t link.task) same ∙ test_same link.task in
-          let one : own ≡ old = same_some own old (sym own_is ∙ sym (ap heads same) ∙ is) in
-          let now : first ≡ instead b spot own.first = made ∙ ap (λ t. cond t (instead b spot own.first) old.first) test in
-          elim b as (λ b. first ≡ instead b spot own.first → ((q ≡ link.task) × (b ≡ None) × (first ≡ Some spot)) ⊎ ((q ≡ link.task → b ≡ None → ⊥) × (first ≡ old.first))) [
-            | None ↦ λ now. inl (same, refl, now)
-            | Some p ↦ λ now. inr (λ _ none. not_none (Some p) p none refl, now ∙ ap (λ (h : Head). h.first) one)
-          ] now
+            let test : nat_eq q link.task ≡ true = ap (λ t. nat_eq t link.task) same ∙ test_same link.task in
+            let one : own ≡ old = same_some own old (sym own_is ∙ sym (ap heads same) ∙ is) in
+            let now : first ≡ instead b spot own.first = made ∙ ap (λ t. cond t (instead b spot own.first) old.first) test in
+            elim b as (λ b. first ≡ instead b spot own.first → ((q ≡ link.task) × (b ≡ None) × (first ≡ Some spot)) ⊎ ((q ≡ link.task → b ≡ None → ⊥) × (first ≡ old.first))) [
+              | None ↦ λ now. inl (same, refl, now)
+              | Some p ↦ λ now. inr (λ _ none. not_none (Some p) p none refl, now ∙ ap (λ (h : Head). h.first) one)
+            ] now
         | inr apart ↦ inr (λ same. absurd (apart same), made ∙ ap (λ t. cond t (instead b spot own.first) old.first) (test_apart q link.task apart))
       ]
 
@@ -89,13 +89,13 @@ module _ (heads new_heads : ℕ → Option Head) (links new_links : Spot → Opt
   put_last q b old last is made =
       elim (same_or_not q link.task) [
         | inl same ↦
-          let test : nat_eq q link.task ≡ true = ap (λ t. nat_eq t link.task) same ∙ test_same link.task in
-          let one : own ≡ old = same_some own old (sym own_is ∙ sym (ap heads same) ∙ is) in
-          let now : last ≡ instead b spot own.last = made ∙ ap (λ t. cond t (instead b spot own.last) old.last) test in
-          elim b as (λ b. last ≡ instead b spot own.last → ((q ≡ link.task) × (b ≡ None) × (last ≡ Some spot)) ⊎ ((q ≡ link.task → b ≡ None → ⊥) × (last ≡ old.last))) [
-            | None ↦ λ now. inl (same, refl, now)
-            | Some p ↦ λ now. inr (λ _ none. not_none (Some p) p none refl, now ∙ ap (λ (h : Head). h.last) one)
-          ] now
+            let test : nat_eq q link.task ≡ true = ap (λ t. nat_eq t link.task) same ∙ test_same link.task in
+            let one : own ≡ old = same_some own old (sym own_is ∙ sym (ap heads same) ∙ is) in
+            let now : last ≡ instead b spot own.last = made ∙ ap (λ t. cond t (instead b spot own.last) old.last) test in
+            elim b as (λ b. last ≡ instead b spot own.last → ((q ≡ link.task) × (b ≡ None) × (last ≡ Some spot)) ⊎ ((q ≡ link.task → b ≡ None → ⊥) × (last ≡ old.last))) [
+              | None ↦ λ now. inl (same, refl, now)
+              | Some p ↦ λ now. inr (λ _ none. not_none (Some p) p none refl, now ∙ ap (λ (h : Head). h.last) one)
+            ] now
         | inr apart ↦ inr (λ same. absurd (apart same), made ∙ ap (λ t. cond t (instead b spot own.last) old.last) (test_apart q link.task apart))
       ]
 
@@ -113,43 +113,43 @@ module _ (heads new_heads : ℕ → Option Head) (links new_links : Spot → Opt
     here = made_here;
     rows = λ p apart. ap (option_map {U = ℕ × ℕ} (λ (l : Link). (l.task, l.number))) (made_other p apart) ∙ rows_same p (links p);
     nexts = λ p l apart is.
-    let behind = map_behind (with_next_at p before (Some spot)) (links p) l (sym (made_other p apart) ∙ is) in
-    (behind.0, behind.1, relinked p behind.0 l behind.2);
+        let behind = map_behind (with_next_at p before (Some spot)) (links p) l (sym (made_other p apart) ∙ is) in
+        (behind.0, behind.1, relinked p behind.0 l behind.2);
     heads_from = λ q head is.
-    let behind = map_behind (with_ends q link.task (instead before spot own.first) (instead link.next spot own.last)) (heads q) head (sym (made_heads q) ∙ is) in
-    (behind.0, behind.1, joined q behind.0 head behind.1 behind.2);
+        let behind = map_behind (with_ends q link.task (instead before spot own.first) (instead link.next spot own.last)) (heads q) head (sym (made_heads q) ∙ is) in
+        (behind.0, behind.1, joined q behind.0 head behind.1 behind.2);
     heads_to = λ q head is. (
-    with_ends q link.task (instead before spot own.first) (instead link.next spot own.last) head,
-    made_heads q ∙ ap (option_map (with_ends q link.task (instead before spot own.first) (instead link.next spot own.last))) is,
-    joined q head _ is refl,
+      with_ends q link.task (instead before spot own.first) (instead link.next spot own.last) head,
+      made_heads q ∙ ap (option_map (with_ends q link.task (instead before spot own.first) (instead link.next spot own.last))) is,
+      joined q head _ is refl,
     );
   }
 
 -- the first of a list that is written as a known input leaves it
 module _ (heads new_heads : ℕ → Option Head) (links new_links : Spot → Option Link) (spot : Spot) (link : Link) (own : Head)
-  (there : links spot ≡ Some link) (own_is : heads link.task ≡ Some own) (first : own.first ≡ Some spot)
-  (made_links : (p : Spot) → new_links p ≡ cond (is_spot p spot) None (links p))
-  (made_heads : (q : ℕ) → new_heads q ≡ option_map (with_ends q link.task link.next (last_behind link.next own.last)) (heads q)) where
+    (there : links spot ≡ Some link) (own_is : heads link.task ≡ Some own) (first : own.first ≡ Some spot)
+    (made_links : (p : Spot) → new_links p ≡ cond (is_spot p spot) None (links p))
+    (made_heads : (q : ℕ) → new_heads q ≡ option_map (with_ends q link.task link.next (last_behind link.next own.last)) (heads q)) where
   untied_ends : (q : ℕ) (old new : Head) → heads q ≡ Some old → with_ends q link.task link.next (last_behind link.next own.last) old ≡ new
       → ((q ≡ link.task) × (old.first ≡ Some spot) × (new.first ≡ link.next) × (new.last ≡ last_behind link.next old.last)) ⊎ ((q ≡ link.task → ⊥) × (new.first ≡ old.first) × (new.last ≡ old.last))
   untied_ends q old new is made =
       elim (same_or_not q link.task) [
         | inl same ↦
-          let test : nat_eq q link.task ≡ true = ap (λ t. nat_eq t link.task) same ∙ test_same link.task in
-          let one : own ≡ old = same_some own old (sym own_is ∙ sym (ap heads same) ∙ is) in
-          inl (
-          same,
-          ap (λ (h : Head). h.first) (sym one) ∙ first,
-          ap (λ (h : Head). h.first) (sym made) ∙ ap (λ t. cond t link.next old.first) test,
-          ap (λ (h : Head). h.last) (sym made) ∙ ap (λ t. cond t (last_behind link.next own.last) old.last) test ∙ ap (λ (h : Head). last_behind link.next h.last) one,
-          )
+            let test : nat_eq q link.task ≡ true = ap (λ t. nat_eq t link.task) same ∙ test_same link.task in
+            let one : own ≡ old = same_some own old (sym own_is ∙ sym (ap heads same) ∙ is) in
+            inl (
+              same,
+              ap (λ (h : Head). h.first) (sym one) ∙ first,
+              ap (λ (h : Head). h.first) (sym made) ∙ ap (λ t. cond t link.next old.first) test,
+              ap (λ (h : Head). h.last) (sym made) ∙ ap (λ t. cond t (last_behind link.next own.last) old.last) test ∙ ap (λ (h : Head). last_behind link.next h.last) one,
+            )
         | inr apart ↦
-          let test = test_apart q link.task apart in
-          inr (
-          apart,
-          ap (λ (h : Head). h.first) (sym made) ∙ ap (λ t. cond t link.next old.first) test,
-          ap (λ (h : Head). h.last) (sym made) ∙ ap (λ t. cond t (last_behind link.next own.last) old.last) test,
-          )
+            let test = test_apart q link.task apart in
+            inr (
+              apart,
+              ap (λ (h : Head). h.first) (sym made) ∙ ap (λ t. cond t link.next old.first) test,
+              ap (λ (h : Head). h.last) (sym made) ∙ ap (λ t. cond t (last_behind link.next own.last) old.last) test,
+            )
       ]
 
   pub untied : IsUntied heads new_heads links new_links spot link
@@ -158,13 +158,13 @@ module _ (heads new_heads : ℕ → Option Head) (links new_links : Spot → Opt
     here = made_links spot ∙ ap (λ b. cond b None (links spot)) (spot_same spot);
     rest = λ p apart. made_links p ∙ ap (λ b. cond b None (links p)) (spot_apart p spot apart);
     heads_from = λ q head is.
-    let behind = map_behind (with_ends q link.task link.next (last_behind link.next own.last)) (heads q) head (sym (made_heads q) ∙ is) in (
-    behind.0,
-    behind.1,
-    ap (λ (h : Head). h.caller) (sym behind.2),
-    ap (λ (h : Head). h.runner) (sym behind.2),
-    ap (λ (h : Head). h.asked) (sym behind.2),
-    untied_ends q behind.0 head behind.1 behind.2,
-    );
+        let behind = map_behind (with_ends q link.task link.next (last_behind link.next own.last)) (heads q) head (sym (made_heads q) ∙ is) in (
+          behind.0,
+          behind.1,
+          ap (λ (h : Head). h.caller) (sym behind.2),
+          ap (λ (h : Head). h.runner) (sym behind.2),
+          ap (λ (h : Head). h.asked) (sym behind.2),
+          untied_ends q behind.0 head behind.1 behind.2,
+        );
     heads_to = λ q head is. (with_ends q link.task link.next (last_behind link.next own.last) head, made_heads q ∙ ap (option_map (with_ends q link.task link.next (last_behind link.next own.last))) is, refl, refl);
   }

@@ -35,20 +35,20 @@ module _ (heads : ℕ → Option Head) (links : Spot → Option Link) (task numb
   gap_at None spot link there more below =
       let leads = subst (Leads (row_of links) task None) (sym below.2) (woven.firsts task below.0 below.1) in
       let key = (same_key (sym leads.1 ∙ row_is links spot link there)).1 in (
-      below.0,
-      below.1,
-      below.2,
-      λ s l is at. let least = leads.3 s l.number (row_is links s l is ∙ ap (λ t. row_with t l.number) at) tt in omega arith,
+        below.0,
+        below.1,
+        below.2,
+        λ s l is at. let least = leads.3 s l.number (row_is links s l is ∙ ap (λ t. row_with t l.number) at) tt in omega arith,
       )
   gap_at (Some p) spot link there more below =
       let leads = subst (Leads (row_of links) below.0.task (Some below.0.number)) (sym below.4) (woven.nexts p below.0 below.1) in
       let key = (same_key (sym leads.1 ∙ row_is links spot link there)).1 in (
-      below.0,
-      below.1,
-      below.2,
-      below.3,
-      below.4,
-      λ s l is at above. let least = leads.3 s l.number (row_is links s l is ∙ ap (λ t. row_with t l.number) (at ∙ sym below.2)) above in omega arith,
+        below.0,
+        below.1,
+        below.2,
+        below.3,
+        below.4,
+        λ s l is at above. let least = leads.3 s l.number (row_is links s l is ∙ ap (λ t. row_with t l.number) (at ∙ sym below.2)) above in omega arith,
       )
 
   -- one step on

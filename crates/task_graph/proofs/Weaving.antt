@@ -83,7 +83,7 @@ same_or_less a b = elim (cases_lt a b) [ inl less ↦ inr less | inr rest ↦ in
 
 -- an input that joins a list
 module _ (heads new_heads : ℕ → Option Head) (links new_links : Spot → Option Link) (spot : Spot) (task number : ℕ) (before next : Option Spot)
-  (woven : IsWoven heads links) (free : links spot ≡ None) (gap : IsGap heads links task number before next) (tied : IsTied heads new_heads links new_links spot task number before next) where
+    (woven : IsWoven heads links) (free : links spot ≡ None) (gap : IsGap heads links task number before next) (tied : IsTied heads new_heads links new_links spot task number before next) where
   here : row_of new_links spot ≡ Some (task, number)
   here = row_is new_links spot (record { task = task; number = number; next = next }) tied.here
 
@@ -97,17 +97,17 @@ module _ (heads new_heads : ℕ → Option Head) (links new_links : Spot → Opt
 
   fits_front : (head : Head) → heads task ≡ Some head → next ≡ head.first → ((s : Spot) (l : Link) → links s ≡ Some l → l.task ≡ task → number < l.number) → Fits None
   fits_front head is first all = (
-      tt,
-      subst (Leads (row_of links) task None) (sym first) (woven.firsts task head is),
-      λ i m row more. let l = link_is links i task m row in subst (λ k. number < k) l.3 (all i l.0 l.1 l.2),
+    tt,
+    subst (Leads (row_of links) task None) (sym first) (woven.firsts task head is),
+    λ i m row more. let l = link_is links i task m row in subst (λ k. number < k) l.3 (all i l.0 l.1 l.2),
   )
 
   fits_behind : (p : Spot) (link : Link) → links p ≡ Some link → link.task ≡ task → link.number < number → next ≡ link.next
       → ((s : Spot) (other : Link) → links s ≡ Some other → other.task ≡ task → link.number < other.number → number < other.number) → Fits (Some link.number)
   fits_behind p link is at less after all = (
-      less,
-      subst (λ o. Leads (row_of links) task (Some link.number) o) (sym after) (subst (λ t. Leads (row_of links) t (Some link.number) link.next) at (woven.nexts p link is)),
-      λ i m row more. let l = link_is links i task m row in subst (λ k. number < k) l.3 (all i l.0 l.1 l.2 (subst (λ k. link.number < k) (sym l.3) more)),
+    less,
+    subst (λ o. Leads (row_of links) task (Some link.number) o) (sym after) (subst (λ t. Leads (row_of links) t (Some link.number) link.next) at (woven.nexts p link is)),
+    λ i m row more. let l = link_is links i task m row in subst (λ k. number < k) l.3 (all i l.0 l.1 l.2 (subst (λ k. link.number < k) (sym l.3) more)),
   )
 
   -- what stands below the new number stands not above what is before it
@@ -120,10 +120,10 @@ module _ (heads new_heads : ℕ → Option Head) (links new_links : Spot → Opt
   -- the new one leads on
   from_new : Leads (row_of new_links) task (Some number) next
   from_new = elim before as (λ b. IsGap heads links task number b next → Leads (row_of new_links) task (Some number) next) [
-        | None ↦ λ g. let f = fits_front g.0 g.1 g.2 g.3 in leads_from_new same_spot (row_of links) (row_of new_links) spot task number (no_row links spot free) here tied.rows None next f.1 f.0 f.2
-        | Some p ↦ λ g. let f = fits_behind p g.0 g.1 g.2 g.3 g.4 g.5 in
-          leads_from_new same_spot (row_of links) (row_of new_links) spot task number (no_row links spot free) here tied.rows (Some g.0.number) next f.1 f.0 f.2
-      ] gap
+    | None ↦ λ g. let f = fits_front g.0 g.1 g.2 g.3 in leads_from_new same_spot (row_of links) (row_of new_links) spot task number (no_row links spot free) here tied.rows None next f.1 f.0 f.2
+    | Some p ↦ λ g. let f = fits_behind p g.0 g.1 g.2 g.3 g.4 g.5 in
+        leads_from_new same_spot (row_of links) (row_of new_links) spot task number (no_row links spot free) here tied.rows (Some g.0.number) next f.1 f.0 f.2
+  ] gap
 
   to_front : (before : Option Spot) → IsGap heads links task number before next → before ≡ None → Leads (row_of new_links) task None (Some spot)
   to_front None g none = let f = fits_front g.0 g.1 g.2 g.3 in leads_to_new same_spot (row_of links) (row_of new_links) spot task number (no_row links spot free) here tied.rows None f.0 f.2
@@ -136,14 +136,13 @@ module _ (heads new_heads : ℕ → Option Head) (links new_links : Spot → Opt
   -- the first of a list
   first_is : (q : ℕ) (old head : Head) → heads q ≡ Some old → IsJoined old head (q ≡ task) before next spot → Leads (row_of new_links) q None head.first
   first_is q old head is joined = elim joined.first [
-        | inl front ↦
-          subst (λ o. Leads (row_of new_links) q None o) (sym front.2) (subst (λ t. Leads (row_of new_links) t None (Some spot)) (sym front.0) (to_front before gap front.1))
-        | inr stays ↦
-          subst (λ o. Leads (row_of new_links) q None o) (sym stays.1)
-          (leads_still same_spot (row_of links) (row_of new_links) spot task number (no_row links spot free) here tied.rows q None old.first (woven.firsts q old is)
-          (λ same more. between q same before gap (stays.0 same)))
-      ]
-
+    | inl front ↦
+        subst (λ o. Leads (row_of new_links) q None o) (sym front.2) (subst (λ t. Leads (row_of new_links) t None (Some spot)) (sym front.0) (to_front before gap front.1))
+    | inr stays ↦
+        subst (λ o. Leads (row_of new_links) q None o) (sym stays.1)
+        (leads_still same_spot (row_of links) (row_of new_links) spot task number (no_row links spot free) here tied.rows q None old.first (woven.firsts q old is)
+        (λ same more. between q same before gap (stays.0 same)))
+  ]
 
   -- the next one behind what stands before the new one
   to_behind : (before : Option Spot) → IsGap heads links task number before next → (p : Spot) → before ≡ Some p → (l : Link) → links p ≡ Some l → Leads (row_of new_links) l.task (Some l.number) (Some spot)
@@ -159,14 +158,14 @@ module _ (heads new_heads : ℕ → Option Head) (links new_links : Spot → Opt
   between_behind p l is at less not_it =
       let b = below_before before gap p l is at less in
       let under = b.6 in (
-      b.0,
-      b.1.number,
-      row_is links b.0 b.1 b.3 ∙ ap (λ t. row_with t b.1.number) (b.4 ∙ sym at),
-      elim (same_or_not l.number b.1.number) [
-        | inl same ↦ absurd (not_it (b.2 ∙ ap Some (sym (woven.apart p b.0 l b.1 is b.3 same))))
-        | inr apart ↦ omega arith
-      ],
-      b.5,
+        b.0,
+        b.1.number,
+        row_is links b.0 b.1 b.3 ∙ ap (λ t. row_with t b.1.number) (b.4 ∙ sym at),
+        elim (same_or_not l.number b.1.number) [
+          | inl same ↦ absurd (not_it (b.2 ∙ ap Some (sym (woven.apart p b.0 l b.1 is b.3 same))))
+          | inr apart ↦ omega arith
+        ],
+        b.5,
       )
 
   -- the next one behind an input that stood in a list
@@ -179,9 +178,9 @@ module _ (heads new_heads : ℕ → Option Head) (links new_links : Spot → Opt
       (elim r.next [
         | inl behind ↦ subst (λ o. Leads (row_of new_links) t.0.task (Some t.0.number) o) (sym behind.1) (to_behind before gap p behind.0 t.0 t.1)
         | inr stays ↦
-          subst (λ o. Leads (row_of new_links) t.0.task (Some t.0.number) o) (sym stays.1)
-          (leads_still same_spot (row_of links) (row_of new_links) spot task number (no_row links spot free) here tied.rows t.0.task (Some t.0.number) t.0.next (woven.nexts p t.0 t.1)
-          (λ same more. between_behind p t.0 t.1 same more stays.0))
+            subst (λ o. Leads (row_of new_links) t.0.task (Some t.0.number) o) (sym stays.1)
+            (leads_still same_spot (row_of links) (row_of new_links) spot task number (no_row links spot free) here tied.rows t.0.task (Some t.0.number) t.0.next (woven.nexts p t.0 t.1)
+            (λ same more. between_behind p t.0 t.1 same more stays.0))
       ]))
 
   -- what a gap says of what follows
@@ -207,13 +206,13 @@ module _ (heads new_heads : ℕ → Option Head) (links new_links : Spot → Opt
       let t = tied.nexts p l.0 apart l.1 in
       let r = t.2 in
       let one : t.0 ≡ end.0 = same_some t.0 end.0 (sym t.1 ∙ end.1) in (
-      l.0,
-      l.1,
-      l.2 ∙ end.2,
-      elim r.next [
-        | inl behind ↦ let f = follows_behind before gap p behind.0 end.0 end.1 in absurd (never (sym end.2 ∙ f.0) (f.1 ∙ end.3))
-        | inr stays ↦ stays.1 ∙ ap (λ (m : Link). m.next) one ∙ end.3
-      ],
+        l.0,
+        l.1,
+        l.2 ∙ end.2,
+        elim r.next [
+          | inl behind ↦ let f = follows_behind before gap p behind.0 end.0 end.1 in absurd (never (sym end.2 ∙ f.0) (f.1 ∙ end.3))
+          | inr stays ↦ stays.1 ∙ ap (λ (m : Link). m.next) one ∙ end.3
+        ],
       )
 
   end_is : (q : ℕ) (old head : Head) → heads q ≡ Some old → IsJoined old head (q ≡ task) before next spot → IsEnd new_links q head.first head.last
@@ -228,8 +227,8 @@ module _ (heads new_heads : ℕ → Option Head) (links new_links : Spot → Opt
   was_there p link is =
       elim (same_spot p spot) [
         | inl same ↦
-          let one : link ≡ record { task = task; number = number; next = next } = same_some link _ (sym is ∙ ap new_links same ∙ tied.here) in
-          inl (same, ap (λ (l : Link). l.task) one, ap (λ (l : Link). l.number) one)
+            let one : link ≡ record { task = task; number = number; next = next } = same_some link _ (sym is ∙ ap new_links same ∙ tied.here) in
+            inl (same, ap (λ (l : Link). l.task) one, ap (λ (l : Link). l.number) one)
         | inr apart ↦ let t = tied.nexts p link apart is in let r = t.2 in inr (t.0, t.1, r.task, r.number)
       ]
 
@@ -245,14 +244,14 @@ module _ (heads new_heads : ℕ → Option Head) (links new_links : Spot → Opt
       (a.0, b.0, a.1, ap new_heads at ∙ b.1, jb.caller ∙ callers ∙ sym ja.caller, ja.runner ∙ idle)
 
   module _ (own awaited : Head) (own_is : heads spot.task ≡ Some own) (awaited_is : heads task ≡ Some awaited) (callers : awaited.caller ≡ own.caller) (idle : own.runner ≡ None)
-    (unused : (p : Spot) (l : Link) → links p ≡ Some l → l.number ≡ number → ⊥) (unasked : (q : ℕ) (h : Head) (m : ℕ) → heads q ≡ Some h → h.asked ≡ Some m → m ≡ number → ⊥) (small : number < 2 ^ 128) where
+      (unused : (p : Spot) (l : Link) → links p ≡ Some l → l.number ≡ number → ⊥) (unasked : (q : ℕ) (h : Head) (m : ℕ) → heads q ≡ Some h → h.asked ≡ Some m → m ≡ number → ⊥) (small : number < 2 ^ 128) where
     pub tied-woven : IsWoven new_heads new_links
     tied-woven = record {
       firsts = λ q head is. let h = tied.heads_from q head is in first_is q h.0 head h.1 h.2;
       nexts = λ p link is. elim (same_spot p spot) [
         | inl same ↦
-          let one : record { task = task; number = number; next = next } ≡ link = same_some _ link (sym tied.here ∙ ap new_links (sym same) ∙ is) in
-          subst (λ (l : Link). Leads (row_of new_links) l.task (Some l.number) l.next) one from_new
+            let one : record { task = task; number = number; next = next } ≡ link = same_some _ link (sym tied.here ∙ ap new_links (sym same) ∙ is) in
+            subst (λ (l : Link). Leads (row_of new_links) l.task (Some l.number) l.next) one from_new
         | inr apart ↦ next_is p link apart is
       ];
       lasts = λ q head is. let h = tied.heads_from q head is in end_is q h.0 head h.1 h.2;
@@ -271,12 +270,12 @@ module _ (heads new_heads : ℕ → Option Head) (links new_links : Spot → Opt
         ]
       ];
       asked_apart = λ p l q head m is there asked same.
-      let h = tied.heads_from q head there in
-      let j = h.2 in
-      elim (was_there p l is) [
-        | inl new ↦ unasked q h.0 m h.1 (sym j.asked ∙ asked) (sym same ∙ new.2)
-        | inr old ↦ woven.asked_apart p old.0 q h.0 m old.1 h.1 (sym j.asked ∙ asked) (sym old.3 ∙ same)
-      ];
+          let h = tied.heads_from q head there in
+          let j = h.2 in
+          elim (was_there p l is) [
+            | inl new ↦ unasked q h.0 m h.1 (sym j.asked ∙ asked) (sym same ∙ new.2)
+            | inr old ↦ woven.asked_apart p old.0 q h.0 m old.1 h.1 (sym j.asked ∙ asked) (sym old.3 ∙ same)
+          ];
       small = λ p l is. elim (was_there p l is) [
         | inl new ↦ subst (λ k. k < 2 ^ 128) (sym new.2) small
         | inr old ↦ subst (λ k. k < 2 ^ 128) (sym old.3) (woven.small p old.0 old.1)
@@ -330,15 +329,15 @@ module _ (heads new_heads : ℕ → Option Head) (links new_links : Spot → Opt
       elim (none_or_some old.last) [
         | inl none ↦ absurd (not_none old.first spot (subst (λ o. IsEnd links q old.first o) none (woven.lasts q old is)) first)
         | inr some ↦
-          let end = subst (λ o. IsEnd links q old.first o) some.1 (woven.lasts q old is) in
-          subst (λ o. IsEnd new_links q (Some n) o) (sym some.1) (
-          end.0,
-          untied.rest some.0 (λ same.
-          let one : end.0 ≡ gone = same_some end.0 gone (sym end.1 ∙ ap links same ∙ untied.there) in
-          not_none gone.next n (ap (λ (l : Link). l.next) (sym one) ∙ end.3) next) ∙ end.1,
-          end.2,
-          end.3,
-          )
+            let end = subst (λ o. IsEnd links q old.first o) some.1 (woven.lasts q old is) in
+            subst (λ o. IsEnd new_links q (Some n) o) (sym some.1) (
+              end.0,
+              untied.rest some.0 (λ same.
+                  let one : end.0 ≡ gone = same_some end.0 gone (sym end.1 ∙ ap links same ∙ untied.there) in
+                  not_none gone.next n (ap (λ (l : Link). l.next) (sym one) ∙ end.3) next) ∙ end.1,
+              end.2,
+              end.3,
+            )
       ]
 
   last_apart : (head : Head) → heads gone.task ≡ Some head → (q : ℕ) (old : Head) → heads q ≡ Some old → (q ≡ gone.task → ⊥) → old.last ≡ Some spot → ⊥
@@ -351,31 +350,31 @@ module _ (heads new_heads : ℕ → Option Head) (links new_links : Spot → Opt
   untied-woven top top_is top_first = record {
     firsts = λ q head is. let h = untied.heads_from q head is in elim h.5 [
       | inl own ↦
-        subst (λ t. Leads (row_of new_links) t None head.first) (sym own.0)
-        (subst (Leads (row_of new_links) gone.task None) (sym own.2)
-        (leads_over same_spot (row_of links) (row_of new_links) spot gone.task gone.number was_row (no_row new_links spot untied.here) rows_rest None gone.next only_one
-        (subst (Leads (row_of links) gone.task None) top_first (woven.firsts gone.task top top_is))
-        (woven.nexts spot gone untied.there)))
+          subst (λ t. Leads (row_of new_links) t None head.first) (sym own.0)
+          (subst (Leads (row_of new_links) gone.task None) (sym own.2)
+          (leads_over same_spot (row_of links) (row_of new_links) spot gone.task gone.number was_row (no_row new_links spot untied.here) rows_rest None gone.next only_one
+          (subst (Leads (row_of links) gone.task None) top_first (woven.firsts gone.task top top_is))
+          (woven.nexts spot gone untied.there)))
       | inr other ↦
-        subst (Leads (row_of new_links) q None) (sym other.1)
-        (leads_past same_spot (row_of links) (row_of new_links) spot gone.task gone.number was_row (no_row new_links spot untied.here) rows_rest q None h.0.first (first_apart q h.0 h.1 other.0) (woven.firsts q h.0 h.1))
+          subst (Leads (row_of new_links) q None) (sym other.1)
+          (leads_past same_spot (row_of links) (row_of new_links) spot gone.task gone.number was_row (no_row new_links spot untied.here) rows_rest q None h.0.first (first_apart q h.0 h.1 other.0) (woven.firsts q h.0 h.1))
     ];
     nexts = λ p link is.
-    let w = link_was p link is in
-    leads_past same_spot (row_of links) (row_of new_links) spot gone.task gone.number was_row (no_row new_links spot untied.here) rows_rest link.task (Some link.number) link.next (next_apart top top_is top_first p link w.1) (woven.nexts p link w.1);
+        let w = link_was p link is in
+        leads_past same_spot (row_of links) (row_of new_links) spot gone.task gone.number was_row (no_row new_links spot untied.here) rows_rest link.task (Some link.number) link.next (next_apart top top_is top_first p link w.1) (woven.nexts p link w.1);
     lasts = λ q head is. let h = untied.heads_from q head is in elim h.5 [
       | inl own ↦ subst (λ o. IsEnd new_links q head.first o) (sym own.3) (subst (λ o. IsEnd new_links q o (last_behind gone.next h.0.last)) (sym own.2) (end_after q h.0 h.1 own.0 own.1 gone.next refl))
       | inr other ↦ subst (λ o. IsEnd new_links q head.first o) (sym other.2) (end_stays_on q h.0.first h.0.last head.first (last_apart top top_is q h.0 h.1 other.0) (λ none. other.1 ∙ none) (woven.lasts q h.0 h.1))
     ];
     home = λ p link is.
-    let w = link_was p link is in
-    let h = woven.home p link w.1 in
-    let a = untied.heads_to p.task h.0 h.2 in
-    let b = untied.heads_to link.task h.1 h.3 in
-    (a.0, b.0, a.1, b.1, b.2 ∙ h.4 ∙ sym a.2, a.3 ∙ h.5);
+        let w = link_was p link is in
+        let h = woven.home p link w.1 in
+        let a = untied.heads_to p.task h.0 h.2 in
+        let b = untied.heads_to link.task h.1 h.3 in
+        (a.0, b.0, a.1, b.1, b.2 ∙ h.4 ∙ sym a.2, a.3 ∙ h.5);
     apart = λ p q l m one two. woven.apart p q l m (link_was p l one).1 (link_was q m two).1;
     asked_apart = λ p l q head m is there asked same.
-    let h = untied.heads_from q head there in
-    woven.asked_apart p l q h.0 m (link_was p l is).1 h.1 (sym h.4 ∙ asked) same;
+        let h = untied.heads_from q head there in
+        woven.asked_apart p l q h.0 m (link_was p l is).1 h.1 (sym h.4 ∙ asked) same;
     small = λ p l is. woven.small p l (link_was p l is).1;
   }

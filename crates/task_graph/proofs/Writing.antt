@@ -42,7 +42,7 @@ unchanged_inputs q spot place None test = refl
 unchanged_inputs q spot place (Some u) test = ap (λ b. Some (record u { inputs = cond b (set u.inputs spot.place (shown_place place)) u.inputs })) (sym test)
 
 module _ {K : Type 0} (old new : ℕ → Option (Entry K)) (spot : Spot) (entry : Entry K) (place : Place)
-  (is : old spot.task ≡ Some entry) (there : IsSome (place_at old spot)) (puts : (q : ℕ) → new q ≡ put_in spot.task (record entry { places = set entry.places spot.place place }) old q) where
+    (is : old spot.task ≡ Some entry) (there : IsSome (place_at old spot)) (puts : (q : ℕ) → new q ≡ put_in spot.task (record entry { places = set entry.places spot.place place }) old q) where
   changed : Entry K
   changed = record entry { places = set entry.places spot.place place }
 
@@ -54,15 +54,15 @@ module _ {K : Type 0} (old new : ℕ → Option (Entry K)) (spot : Spot) (entry 
   placed p =
       elim (same_or_not p.task spot.task) [
         | inl same ↦
-          let test : nat_eq p.task spot.task ≡ true = ap (λ t. nat_eq t spot.task) same ∙ test_same spot.task in
-          ap (λ o. place_in o p.place) (puts p.task ∙ ap (λ b. cond b (Some changed) (old p.task)) test)
-          ∙ get_set entry.count entry.places spot.place place p.place inside
-          ∙ ap (λ o. cond (nat_eq p.place spot.place) (Some place) (place_in o p.place)) (sym (ap old same ∙ is))
-          ∙ ap (λ b. cond (b && nat_eq p.place spot.place) (Some place) (place_at old p)) (sym test)
+            let test : nat_eq p.task spot.task ≡ true = ap (λ t. nat_eq t spot.task) same ∙ test_same spot.task in
+            ap (λ o. place_in o p.place) (puts p.task ∙ ap (λ b. cond b (Some changed) (old p.task)) test)
+            ∙ get_set entry.count entry.places spot.place place p.place inside
+            ∙ ap (λ o. cond (nat_eq p.place spot.place) (Some place) (place_in o p.place)) (sym (ap old same ∙ is))
+            ∙ ap (λ b. cond (b && nat_eq p.place spot.place) (Some place) (place_at old p)) (sym test)
         | inr apart ↦
-          let test : nat_eq p.task spot.task ≡ false = test_apart p.task spot.task apart in
-          ap (λ o. place_in o p.place) (puts p.task ∙ ap (λ b. cond b (Some changed) (old p.task)) test)
-          ∙ ap (λ b. cond (b && nat_eq p.place spot.place) (Some place) (place_at old p)) (sym test)
+            let test : nat_eq p.task spot.task ≡ false = test_apart p.task spot.task apart in
+            ap (λ o. place_in o p.place) (puts p.task ∙ ap (λ b. cond b (Some changed) (old p.task)) test)
+            ∙ ap (λ b. cond (b && nat_eq p.place spot.place) (Some place) (place_at old p)) (sym test)
       ]
 
   pub shown_placed : (q : ℕ) → shown_at new q ≡ option_map (with_input q spot (shown_place place)) (shown_at old q)
@@ -70,14 +70,14 @@ module _ {K : Type 0} (old new : ℕ → Option (Entry K)) (spot : Spot) (entry 
   shown_placed q =
       elim (same_or_not q spot.task) [
         | inl same ↦
-          let test : nat_eq q spot.task ≡ true = ap (λ t. nat_eq t spot.task) same ∙ test_same spot.task in
-          ap (option_map shown_entry) (puts q ∙ ap (λ b. cond b (Some changed) (old q)) test)
-          ∙ ap (λ inputs. Some (record (shown_entry entry) { inputs = inputs })) (map_set shown_place entry.count entry.places spot.place place)
-          ∙ ap (λ b. Some (record (shown_entry entry) { inputs = cond b (set (each shown_place (inputs_of entry)) spot.place (shown_place place)) (each shown_place (inputs_of entry)) })) (sym test)
-          ∙ ap (λ o. option_map (with_input q spot (shown_place place)) (option_map shown_entry o)) (sym (ap old same ∙ is))
+            let test : nat_eq q spot.task ≡ true = ap (λ t. nat_eq t spot.task) same ∙ test_same spot.task in
+            ap (option_map shown_entry) (puts q ∙ ap (λ b. cond b (Some changed) (old q)) test)
+            ∙ ap (λ inputs. Some (record (shown_entry entry) { inputs = inputs })) (map_set shown_place entry.count entry.places spot.place place)
+            ∙ ap (λ b. Some (record (shown_entry entry) { inputs = cond b (set (each shown_place (inputs_of entry)) spot.place (shown_place place)) (each shown_place (inputs_of entry)) })) (sym test)
+            ∙ ap (λ o. option_map (with_input q spot (shown_place place)) (option_map shown_entry o)) (sym (ap old same ∙ is))
         | inr apart ↦
-          let test : nat_eq q spot.task ≡ false = test_apart q spot.task apart in
-          ap (option_map shown_entry) (puts q ∙ ap (λ b. cond b (Some changed) (old q)) test) ∙ unchanged_inputs q spot place (shown_at old q) test
+            let test : nat_eq q spot.task ≡ false = test_apart q spot.task apart in
+            ap (option_map shown_entry) (puts q ∙ ap (λ b. cond b (Some changed) (old q)) test) ∙ unchanged_inputs q spot place (shown_at old q) test
       ]
 
 -- an awaiting input behind its link
@@ -116,9 +116,9 @@ shown_same {K} entries spot link next is q =
     elim (entries q) as (λ o. entries q ≡ o → option_map (with_input q spot (shown_place (Awaits (record link { next = next })))) (option_map shown_entry o) ≡ option_map shown_entry o) [
       | None ↦ λ _. refl
       | Some entry ↦ λ at. ap Some (inputs_same q spot (AwaitsTask link.task link.number) (shown_entry entry) (λ test.
-        let same : q ≡ spot.task = grind (arith, nat_tests) in
-        let one : behind.0 ≡ entry = (let e : Some behind.0 ≡ Some entry = sym behind.1 ∙ sym (ap entries same) ∙ at in cc) in
-        get_each shown_place (inputs_of entry) spot.place (Awaits link) (subst (λ (e : Entry K). slice_get (inputs_of e) spot.place ≡ Some (Awaits link)) one behind.2)))
+          let same : q ≡ spot.task = grind (arith, nat_tests) in
+          let one : behind.0 ≡ entry = (let e : Some behind.0 ≡ Some entry = sym behind.1 ∙ sym (ap entries same) ∙ at in cc) in
+          get_each shown_place (inputs_of entry) spot.place (Awaits link) (subst (λ (e : Entry K). slice_get (inputs_of e) spot.place ≡ Some (Awaits link)) one behind.2)))
     ] refl
 
 -- the links once an input awaits

@@ -165,7 +165,7 @@ pub record IsUntied (heads new_heads : ℕ → Option Head) (links new_links : S
   pub rest : (other : Spot) → (other ≡ spot → ⊥) → new_links other ≡ links other
   pub heads_from : (q : ℕ) (head : Head) → new_heads q ≡ Some head → (old : Head) × (heads q ≡ Some old) × (head.caller ≡ old.caller) × (head.runner ≡ old.runner) × (head.asked ≡ old.asked)
       × (((q ≡ gone.task) × (old.first ≡ Some spot) × (head.first ≡ gone.next) × (head.last ≡ last_behind gone.next old.last))
-        ⊎ ((q ≡ gone.task → ⊥) × (head.first ≡ old.first) × (head.last ≡ old.last)))
+      ⊎ ((q ≡ gone.task → ⊥) × (head.first ≡ old.first) × (head.last ≡ old.last)))
   pub heads_to : (q : ℕ) (head : Head) → heads q ≡ Some head → (new : Head) × (new_heads q ≡ Some new) × (new.caller ≡ head.caller) × (new.runner ≡ head.runner)
 
 -- Links that are left, and heads whose lists are as before, or empty and of tasks that nobody awaited.

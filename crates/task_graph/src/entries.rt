@@ -9,7 +9,6 @@ ghost use Rattle.task_graph.specs.Inside.{entries_at, put_in, room_of, IsSameSiz
 ghost use Rattle.task_graph.specs.Weave.{head_at, link_at, with_next, with_ends, IsBeside, count_of};
 ghost use Rattle.task_graph.specs.Order.{with_after_at, with_before_at};
 
-
 use cht_ids::Ref;
 use std::collections::HashMap;
 use task_states::TaskStatus;

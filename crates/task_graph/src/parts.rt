@@ -6,7 +6,6 @@ ghost use Rattle.task_graph.specs.Inside.{entries_at, put_in, room_of, station_a
 ghost use Rattle.task_graph.specs.Weave.{IsBeside, Middle, IsInserted, IsWithout};
 ghost use Rattle.task_graph.specs.Callers.{caller_at, bounds_at, load_at, with_running_at};
 ghost use Rattle.task_graph.specs.Order.{IsOrdered, IsJustBelow, IsBehind, with_after_at, with_before_at, with_first_at, with_last_at};
-
 ghost use Rattle.std.specs.Prelude.{IsTrue, ◌↔◌, ◌⊎◌, ◌^◌, length, set, OnOk};
 ghost use Rattle.task_states.specs.States.{Known as KnownInput, Awaits as AwaitsTask};
 ghost use Rattle.task_states.specs.Steps.{with_task};
@@ -426,9 +425,13 @@ impl<K: Copy> Parts<K> {
     {
         match self.awaiter(task) {
             None => None,
-            Some(Awaiter::Input {
-                task: of, place, ..
-            }) => {
+            Some(
+                Awaiter::Input {
+                    task: of,
+                    place,
+                    ..
+                },
+            ) => {
                 self.settle(Spot { task: of, place }, r);
                 Some(of)
             }

@@ -5,7 +5,8 @@ ghost use Rattle.task_states.specs.States.{caller_of};
 ghost use Rattle.task_graph.specs.Inside.{inputs_of, shown_place};
 ghost use Rattle.task_graph.specs.Contents.{input_of};
 ghost use Rattle.task_graph.specs.Graphs.{graph_of, IsWhole};
-ghost use Rattle.task_graph.specs.Reading.{IsCeiling, HasWanted};
+ghost use Rattle.task_graph.specs.Reading.{IsCeiling, is_wanted};
+ghost use Rattle.std.specs.List.{list_any};
 
 use crate::callers::Caller;
 use crate::entries::{Entry, Place};
@@ -36,6 +37,22 @@ impl<K: Copy> Entry<K> {
             None
         }
     }
+}
+
+impl Caller {
+    // Whether the caller has a task and is not stopped.
+    fn is_wanted(&self) -> bool
+        ensures { result ≡ is_wanted self.now }
+    {
+        !self.stopped && self.first.is_some()
+    }
+}
+
+// Whether a caller that is not stopped has a task.
+fn any_wanted(rows: &[Caller]) -> bool
+    ensures { result ≡ list_any is_wanted rows.now }
+{
+    rows.iter().any(|row| row.is_wanted())
 }
 
 impl<K: Copy> Parts<K> {
@@ -88,16 +105,4 @@ impl<K: Copy> Parts<K> {
     {
         any_wanted(&self.callers.rows)
     }
-}
-
-// Whether a caller that is not stopped has a task.
-fn any_wanted(rows: &[Caller]) -> bool
-    ensures { IsTrue result ↔ HasWanted rows.now }
-{
-    for row in rows {
-        if !row.stopped && row.first.is_some() {
-            return true;
-        }
-    }
-    false
 }

@@ -9,8 +9,8 @@ pub loop-i-preserved : goal.loop-i-preserved
 loop-i-preserved c =
     let low : c.loop-i.i < length c.args.inputs.now = c.loop-i-test.true in
     let room : c.loop-i.i < length c.loop-i.places = omega (arith, c.loop-i.invariant.1, c.requires) in (
-    ap (λ v. take (c.loop-i.i + 1) (set c.loop-i.places c.loop-i.i v)) c.known.ensures ∙ step_places c.loop-i.i c.loop-i.places c.args.inputs.now _ room low c.loop-i.invariant.0,
-    length-set c.loop-i.places c.loop-i.i c.known.result ∙ c.loop-i.invariant.1,
+      ap (λ v. take (c.loop-i.i + 1) (set c.loop-i.places c.loop-i.i v)) c.known.ensures ∙ step_places c.loop-i.i c.loop-i.places c.args.inputs.now _ room low c.loop-i.invariant.0,
+      length-set c.loop-i.places c.loop-i.i c.known.result ∙ c.loop-i.invariant.1,
     )
 
 pub returns : goal.returns

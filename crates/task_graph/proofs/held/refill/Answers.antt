@@ -4,9 +4,9 @@ use Rattle.task_graph.proofs.held.refill.Goals as goal
 
 pub loop-number-init : goal.loop-number-init
 loop-number-init g c = (
-    c.clear.ensures.queue,
-    (let same = c.clear.ensures.capacity in omega arith),
-    refill_start c.args.entries.now.tasks.entries c.into_iter-number-iterator.result c.clear.new.self (c.into_iter-number-iterator.ensures.into_iter_gives ∙ c.iter-number-items.ensures.rest) c.clear.ensures.len,
+  c.clear.ensures.queue,
+  (let same = c.clear.ensures.capacity in omega arith),
+  refill_start c.args.entries.now.tasks.entries c.into_iter-number-iterator.result c.clear.new.self (c.into_iter-number-iterator.ensures.into_iter_gives ∙ c.iter-number-items.ensures.rest) c.clear.ensures.len,
 )
 
 pub offer-requires-clause-short : goal.offer-requires-clause-short
@@ -25,9 +25,9 @@ pub loop-number-preserved : goal.loop-number-preserved
 loop-number-preserved g c =
     let more = c.loop-number.invariant.1 in
     let next = c.offer.ensures.capacity in (
-    c.offer.ensures.queue,
-    omega arith,
-    refill_step c.args.entries.now.tasks.entries c.in-Some.number.now c.in-Some.entry.now c.loop-number.number-iterator c.next.new.self c.loop-number.ready c.offer.new.ready c.in-Some.ensures.steps c.loop-number.invariant.2 c.offer.ensures.here c.offer.ensures.rest c.offer.ensures.len,
+      c.offer.ensures.queue,
+      omega arith,
+      refill_step c.args.entries.now.tasks.entries c.in-Some.number.now c.in-Some.entry.now c.loop-number.number-iterator c.next.new.self c.loop-number.ready c.offer.new.ready c.in-Some.ensures.steps c.loop-number.invariant.2 c.offer.ensures.here c.offer.ensures.rest c.offer.ensures.len,
     )
 
 pub returns-clause-queued : goal.returns-clause-queued

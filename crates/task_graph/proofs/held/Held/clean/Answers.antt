@@ -36,9 +36,13 @@ pub drop_least-requires : goal.drop_least-requires
 drop_least-requires g c = record { queue = c.loop-least.invariant.2 }
 
 pub loop-least-preserved : goal.loop-least-preserved
-loop-least-preserved g c = (c.loop-least.invariant.0, c.loop-least.invariant.1, c.drop_least.ensures.queue,
-    still_queued (graph_of c.loop-least.self.parts) c.loop-least.self.ready c.drop_least.new.self c.in-Some.least (λ runs. false_is (c.if-is_runnable.ensures.1 runs)) (c.drop_least.ensures.rest c.in-Some.least c.in-Some.ensures) c.loop-least.invariant.3,
-    record { entries = c.loop-least.invariant.4.entries; numbers = subst (λ n. hash_map_len c.loop-least.self.parts.entries.tasks + c.loop-least.self.spare ≤ n) (sym c.drop_least.ensures.capacity) c.loop-least.invariant.4.numbers; few = c.loop-least.invariant.4.few })
+loop-least-preserved g c = (
+  c.loop-least.invariant.0,
+  c.loop-least.invariant.1,
+  c.drop_least.ensures.queue,
+  still_queued (graph_of c.loop-least.self.parts) c.loop-least.self.ready c.drop_least.new.self c.in-Some.least (λ runs. false_is (c.if-is_runnable.ensures.1 runs)) (c.drop_least.ensures.rest c.in-Some.least c.in-Some.ensures) c.loop-least.invariant.3,
+  record { entries = c.loop-least.invariant.4.entries; numbers = subst (λ n. hash_map_len c.loop-least.self.parts.entries.tasks + c.loop-least.self.spare ≤ n) (sym c.drop_least.ensures.capacity) c.loop-least.invariant.4.numbers; few = c.loop-least.invariant.4.few },
+)
 
 pub returns-clause-held : goal.returns-clause-held
 returns-clause-held g c = record {

@@ -13,7 +13,7 @@ use Rattle.task_graph.proofs.parts.Parts.above.Goals as goal
 pub returns-then-task-after : goal.returns-then-task-after
 returns-then-task-after g c =
     let ceiling = subst (IsCeiling (graph_of c.args.self.now) c.args.caller c.args.after) c.in-Some.is c.loop-at.invariant in
-    subst (IsLeastOf (IsLater (graph_of c.args.self.now) c.args.caller c.args.after)) (sym c.in-Some.is) (found_above c.args.self.now c.requires.whole c.args.caller c.args.after c.in-Some.task ceiling c.if-task-after.true)
+    found_above c.args.self.now c.requires.whole c.args.caller c.args.after c.in-Some.task ceiling c.if-task-after.true
 
 pub get-entry-requires : goal.get-entry-requires
 get-entry-requires g c =

@@ -17,14 +17,14 @@ place_idle-requires-clause-new g c = none_entry c.args.self.now c.args.task c.re
 
 pub loop-place-init : goal.loop-place-init
 loop-place-init g c = (
-    adding_none c.args.self.now c.place_idle.new.self c.args.task c.args.caller c.args.kind c.args.inputs.now c.place_idle.ensures.whole
-    (c.place_idle.ensures.graph
-    ∙ ap (λ caller. added (graph_of c.args.self.now) c.args.task caller c.bare.result.kind (shown_entry c.bare.result).inputs) c.bare.ensures.caller
-    ∙ ap (λ kind. added (graph_of c.args.self.now) c.args.task c.args.caller kind (shown_entry c.bare.result).inputs) c.bare.ensures.kind
-    ∙ ap (λ inputs. added (graph_of c.args.self.now) c.args.task c.args.caller c.args.kind inputs) c.bare.ensures.inputs)
-    c.place_idle.ensures.links,
-    c.place_idle.ensures.len,
-    c.place_idle.ensures.room,
+  adding_none c.args.self.now c.place_idle.new.self c.args.task c.args.caller c.args.kind c.args.inputs.now c.place_idle.ensures.whole
+      (c.place_idle.ensures.graph
+      ∙ ap (λ caller. added (graph_of c.args.self.now) c.args.task caller c.bare.result.kind (shown_entry c.bare.result).inputs) c.bare.ensures.caller
+      ∙ ap (λ kind. added (graph_of c.args.self.now) c.args.task c.args.caller kind (shown_entry c.bare.result).inputs) c.bare.ensures.kind
+      ∙ ap (λ inputs. added (graph_of c.args.self.now) c.args.task c.args.caller c.args.kind inputs) c.bare.ensures.inputs)
+      c.place_idle.ensures.links,
+  c.place_idle.ensures.len,
+  c.place_idle.ensures.room,
 )
 
 pub join-requires-clause-there : goal.join-requires-clause-there
@@ -53,22 +53,22 @@ pub loop-place-preserved : goal.loop-place-preserved
 loop-place-preserved g c =
     elim c.match-slot.branch [
       | in-Awaits w ↦
-        let at = get_at c.args.inputs.now c.loop-place.place _ c.loop-place-test.true ∙ ap Some w.in-Awaits.is in
-        let size = w.join.ensures.size in
-        subst (λ (self : Parts g.row.K.Denot). IsAdding c.args.self.now self c.args.task c.args.caller c.args.kind c.args.inputs.now (c.loop-place.place + 1) × (hash_map_len self.entries.tasks ≡ hash_map_len c.args.self.now.entries.tasks + 1) × (room_of c.args.self.now.entries ≤ room_of self.entries + 1)) (sym w.self-is) (
-        adding_more c.args.self.now c.loop-place.self c.args.task c.args.caller c.args.kind c.args.inputs.now c.loop-place.place (none_entry c.args.self.now c.args.task c.requires.new) c.loop-place.invariant.0 w.in-Awaits.awaited w.in-Awaits.number at w.join.new.self w.join.ensures.whole w.join.ensures.tied w.join.ensures.graph,
-        size.len ∙ c.loop-place.invariant.1,
-        subst (λ r. room_of c.args.self.now.entries ≤ r + 1) (sym size.room) c.loop-place.invariant.2,
-        )
+          let at = get_at c.args.inputs.now c.loop-place.place _ c.loop-place-test.true ∙ ap Some w.in-Awaits.is in
+          let size = w.join.ensures.size in
+          subst (λ (self : Parts g.row.K.Denot). IsAdding c.args.self.now self c.args.task c.args.caller c.args.kind c.args.inputs.now (c.loop-place.place + 1) × (hash_map_len self.entries.tasks ≡ hash_map_len c.args.self.now.entries.tasks + 1) × (room_of c.args.self.now.entries ≤ room_of self.entries + 1)) (sym w.self-is) (
+            adding_more c.args.self.now c.loop-place.self c.args.task c.args.caller c.args.kind c.args.inputs.now c.loop-place.place (none_entry c.args.self.now c.args.task c.requires.new) c.loop-place.invariant.0 w.in-Awaits.awaited w.in-Awaits.number at w.join.new.self w.join.ensures.whole w.join.ensures.tied w.join.ensures.graph,
+            size.len ∙ c.loop-place.invariant.1,
+            subst (λ r. room_of c.args.self.now.entries ≤ r + 1) (sym size.room) c.loop-place.invariant.2,
+          )
       | in_default w ↦
-        subst (λ (self : Parts g.row.K.Denot). IsAdding c.args.self.now self c.args.task c.args.caller c.args.kind c.args.inputs.now (c.loop-place.place + 1) × (hash_map_len self.entries.tasks ≡ hash_map_len c.args.self.now.entries.tasks + 1) × (room_of c.args.self.now.entries ≤ room_of self.entries + 1)) (sym w.self-is) (
-        elim (slot_cases (get_or c.args.inputs.now c.loop-place.place (Known Null))) [
-          | inl known ↦ adding_known c.args.self.now c.loop-place.self c.args.task c.args.caller c.args.kind c.args.inputs.now c.loop-place.place (none_entry c.args.self.now c.args.task c.requires.new) c.loop-place.invariant.0 known.0 (get_at c.args.inputs.now c.loop-place.place (Known Null) c.loop-place-test.true ∙ ap Some known.1)
-          | inr awaits ↦ absurd (w.in_default.not-Awaits awaits.0 awaits.1 awaits.2)
-        ],
-        c.loop-place.invariant.1,
-        c.loop-place.invariant.2,
-        )
+          subst (λ (self : Parts g.row.K.Denot). IsAdding c.args.self.now self c.args.task c.args.caller c.args.kind c.args.inputs.now (c.loop-place.place + 1) × (hash_map_len self.entries.tasks ≡ hash_map_len c.args.self.now.entries.tasks + 1) × (room_of c.args.self.now.entries ≤ room_of self.entries + 1)) (sym w.self-is) (
+            elim (slot_cases (get_or c.args.inputs.now c.loop-place.place (Known Null))) [
+              | inl known ↦ adding_known c.args.self.now c.loop-place.self c.args.task c.args.caller c.args.kind c.args.inputs.now c.loop-place.place (none_entry c.args.self.now c.args.task c.requires.new) c.loop-place.invariant.0 known.0 (get_at c.args.inputs.now c.loop-place.place (Known Null) c.loop-place-test.true ∙ ap Some known.1)
+              | inr awaits ↦ absurd (w.in_default.not-Awaits awaits.0 awaits.1 awaits.2)
+            ],
+            c.loop-place.invariant.1,
+            c.loop-place.invariant.2,
+          )
     ]
 
 pub returns-clause-graph : goal.returns-clause-graph

@@ -42,11 +42,14 @@ loop-spot-preserved g c =
     (awaited_place c.loop-spot.self c.args.task c.args.to e.0 c.loop-spot.invariant.0 e.1 c.in-Some.spot first step.link step.was own.0 own.1) in
     let size = c.loop-spot.invariant.3 in
     let more = c.move_first.ensures.size in (
-    c.move_first.ensures.whole,
-    moved,
-    (c.requires.callers.0, callers_moved c.args.task c.args.to (graph_of c.args.self.now) (graph_of c.move_first.new.self) moved c.args.task c.requires.callers.0 c.requires.callers.1,
-    callers_moved c.args.task c.args.to (graph_of c.args.self.now) (graph_of c.move_first.new.self) moved c.args.to c.requires.callers.0 c.requires.callers.2),
-    record { len = more.len ∙ size.len; room = more.room ∙ size.room },
+      c.move_first.ensures.whole,
+      moved,
+      (
+        c.requires.callers.0,
+        callers_moved c.args.task c.args.to (graph_of c.args.self.now) (graph_of c.move_first.new.self) moved c.args.task c.requires.callers.0 c.requires.callers.1,
+        callers_moved c.args.task c.args.to (graph_of c.args.self.now) (graph_of c.move_first.new.self) moved c.args.to c.requires.callers.0 c.requires.callers.2,
+      ),
+      record { len = more.len ∙ size.len; room = more.room ∙ size.room },
     )
 
 pub returns-clause-graph : goal.returns-clause-graph

@@ -15,9 +15,9 @@ room g c = room_made _ _ _ _ c.requires.ordered c.below-before.result c.behind-a
 
 pub returns-clause-beside : goal.returns-clause-beside
 returns-clause-beside g c = (
-    entries_at c.insert.new.self,
-    (c.below-before.result, c.behind-after.result, c.insert.ensures.at),
-    besides (entries_at c.insert.new.self) (entries_at c.lead_on.new.self.entries) (entries_at c.lead_back.new.self.entries) c.lead_on.ensures.beside c.lead_back.ensures.beside,
+  entries_at c.insert.new.self,
+  (c.below-before.result, c.behind-after.result, c.insert.ensures.at),
+  besides (entries_at c.insert.new.self) (entries_at c.lead_on.new.self.entries) (entries_at c.lead_back.new.self.entries) c.lead_on.ensures.beside c.lead_back.ensures.beside,
 )
 
 pub returns-clause-ordered : goal.returns-clause-ordered

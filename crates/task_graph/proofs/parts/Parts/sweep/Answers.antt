@@ -13,8 +13,8 @@ loop-next-preserved g c =
     let room = c.remove-entry.ensures.room in
     let low = c.loop-next.invariant.2 in
     let more = c.loop-next.invariant.3 in (
-    swept_more c.args.self.now c.args.caller c.requires.whole c.loop-next.self (record c.loop-next.self { entries = c.remove-entry.new.self }) c.in-Some.task c.remove-entry.result swept c.remove-entry.ensures.entry c.remove-entry.ensures.at,
-    c.loop-next.invariant.1,
-    omega arith,
-    omega arith,
+      swept_more c.args.self.now c.args.caller c.requires.whole c.loop-next.self (record c.loop-next.self { entries = c.remove-entry.new.self }) c.in-Some.task c.remove-entry.result swept c.remove-entry.ensures.entry c.remove-entry.ensures.at,
+      c.loop-next.invariant.1,
+      omega arith,
+      omega arith,
     )

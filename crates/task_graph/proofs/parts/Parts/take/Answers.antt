@@ -44,9 +44,9 @@ lead_back-requires-clause-there g c = λ q is.
 
 pub returns-clause-beside : goal.returns-clause-beside
 returns-clause-beside g c = (
-    entries_at c.remove-entry.new.self,
-    c.remove-entry.ensures.at,
-    besides (entries_at c.remove-entry.new.self) (entries_at c.lead_on.new.self.entries) (entries_at c.lead_back.new.self.entries) c.lead_on.ensures.beside c.lead_back.ensures.beside,
+  entries_at c.remove-entry.new.self,
+  c.remove-entry.ensures.at,
+  besides (entries_at c.remove-entry.new.self) (entries_at c.lead_on.new.self.entries) (entries_at c.lead_back.new.self.entries) c.lead_on.ensures.beside c.lead_back.ensures.beside,
 )
 
 pub returns-clause-ordered : goal.returns-clause-ordered
