@@ -1,0 +1,88 @@
+-- A task whose worker or whose asked output changes.
+use Rattle.std.proofs.Common.{◌≡◌, ℕ, ◌+◌, ◌<◌, ◌≤◌, Bool, true, false, cond, ◌&&◌, List, [], ◌∷◌, Option, Some, None, is_some, IsSome, nat_eq, refl, sym, ap, subst, ◌∙◌, ◌⊎◌, inl, inr, arith, length}
+use Rattle.std.specs.Option.{option_map}
+use Rattle.std.specs.List.{list_any}
+use Rattle.std.specs.Prelude.{slice_get, map as each, if◌then◌else◌}
+use Rattle.std.specs.FinMap as map
+use Rattle.std.specs.Ordering.{nat_cmp}
+use Rattle.cht_ids.specs.declared.refs.Ref.{Ref}
+use Rattle.task_states.specs.declared.states.TaskStatus.{TaskStatus}
+use Rattle.task_states.specs.declared.states.TaskStatus.TheVariants.{Unknown, Waiting, Ready, Running}
+use Rattle.task_states.specs.States.{Input, Unfinished, Graph, is_awaiting, status_of, is_running, is_run_for, running, task_at}
+use Rattle.task_states.specs.Maps.{put_at}
+use Rattle.task_states.specs.Steps.{with_task}
+use Rattle.task_states.proofs.Maps.{same_or_not, test_same, test_apart, same_maps, get_inserted}
+use Rattle.task_graph.specs.declared.callers.Caller.{Caller}
+use Rattle.task_graph.specs.declared.entries.Entry.{Entry}
+use Rattle.task_graph.specs.declared.entries.Link.{Link}
+use Rattle.task_graph.specs.declared.entries.Spot.{Spot}
+use Rattle.task_graph.specs.declared.parts.Parts.{Parts}
+use Rattle.task_graph.specs.Weave.{Head, IsWoven, IsLeft, link_of, link_at, head_at, head_of}
+use Rattle.task_graph.specs.Inside.{shown_entry, shown_at, entries_at, place_in, inputs_of}
+use Rattle.task_graph.specs.Graphs.{tasks_of, graph_of}
+use Rattle.task_graph.proofs.Chains.{not_none}
+use Rattle.task_graph.proofs.Weaving.{same_some, left-woven}
+use Rattle.task_graph.proofs.Tying.{map_behind}
+
+-- heads that keep their callers and their lists
+pub reheaded-woven : (heads new : ℕ → Option Head) (links new_links : Spot → Option Link) (change : ℕ → Head → Head) → IsWoven heads links
+    → ((p : Spot) → new_links p ≡ links p) → ((q : ℕ) → new q ≡ option_map (change q) (heads q))
+    → ((q : ℕ) (h : Head) → ((change q h).caller ≡ h.caller) × ((change q h).first ≡ h.first) × ((change q h).last ≡ h.last))
+    → ((p : Spot) (l : Link) (own : Head) → links p ≡ Some l → heads p.task ≡ Some own → own.runner ≡ None → (change p.task own).runner ≡ None)
+    → ((p : Spot) (l : Link) (q : ℕ) (h : Head) (n : ℕ) → links p ≡ Some l → heads q ≡ Some h → (change q h).asked ≡ Some n → l.number ≡ n → ⊥)
+    → IsWoven new new_links
+reheaded-woven heads new links new_links change woven same made keeps idle apart =
+    left-woven heads new links new_links woven (record {
+      was = λ p l is. sym (same p) ∙ is;
+      stays = λ p l h is _. same p ∙ is;
+      home = λ p l is.
+          let h = woven.home p l (sym (same p) ∙ is) in (
+            change p.task h.0,
+            change l.task h.1,
+            made p.task ∙ ap (option_map (change p.task)) h.2,
+            made l.task ∙ ap (option_map (change l.task)) h.3,
+            (keeps l.task h.1).0 ∙ h.4 ∙ sym (keeps p.task h.0).0,
+            idle p l h.0 (sym (same p) ∙ is) h.2 h.5,
+          );
+      lists = λ q h is. let b = map_behind (change q) (heads q) h (sym (made q) ∙ is) in
+          inl (b.0, b.1, ap (λ (x : Head). x.first) (sym b.2) ∙ (keeps q b.0).1, ap (λ (x : Head). x.last) (sym b.2) ∙ (keeps q b.0).2);
+      asked_apart = λ p l q h n is there asked same_number.
+          let b = map_behind (change q) (heads q) h (sym (made q) ∙ there) in
+          apart p l q b.0 n (sym (same p) ∙ is) b.1 (ap (λ (x : Head). x.asked) b.2 ∙ asked) same_number;
+    })
+
+map_same : {X Y : Type 0} (f g : X → Y) → ((x : X) → f x ≡ g x) → (o : Option X) → option_map f o ≡ option_map g o
+map_same f g same None = refl
+map_same f g same (Some x) = ap Some (same x)
+
+pub map_id : {X : Type 0} (f : X → X) → ((x : X) → f x ≡ x) → (o : Option X) → option_map f o ≡ o
+map_id f same None = refl
+map_id f same (Some x) = ap Some (same x)
+
+-- one task changed, as contracts see it
+module _ {K : Type 0} where
+  pub get_changed : (tasks : map.FinMap nat_cmp (Unfinished Ref K)) (t q : ℕ) (change : Unfinished Ref K → Unfinished Ref K)
+      → map.get (put_at tasks t (option_map change (map.get tasks t))) q ≡ cond (nat_eq q t) (option_map change (map.get tasks t)) (map.get tasks q)
+  get_changed tasks t q change =
+      elim (map.get tasks t) as (λ o. map.get tasks t ≡ o → map.get (put_at tasks t (option_map change o)) q ≡ cond (nat_eq q t) (option_map change o) (map.get tasks q)) [
+        | None ↦ λ is. elim (same_or_not q t) [
+          | inl same ↦ ap (map.get tasks) same ∙ is ∙ sym (ap (λ b. cond b None (map.get tasks q)) (ap (λ r. nat_eq r t) same ∙ test_same t))
+          | inr apart ↦ sym (ap (λ b. cond b None (map.get tasks q)) (test_apart q t apart))
+        ]
+        | Some u ↦ λ is. get_inserted tasks t (change u) q
+      ] refl
+
+  -- the tasks, from what each became
+  pub tasks_changed : (tasks new : map.FinMap nat_cmp (Unfinished Ref K)) (t : ℕ) (change : Unfinished Ref K → Unfinished Ref K) (at : ℕ → Unfinished Ref K → Unfinished Ref K)
+      → ((q : ℕ) → map.get new q ≡ option_map (at q) (map.get tasks q)) → ((u : Unfinished Ref K) → at t u ≡ change u) → ((q : ℕ) (u : Unfinished Ref K) → (q ≡ t → ⊥) → at q u ≡ u)
+      → new ≡ put_at tasks t (option_map change (map.get tasks t))
+  tasks_changed tasks new t change at made here other =
+      same_maps new (put_at tasks t (option_map change (map.get tasks t))) (λ q. made q
+      ∙ elim (same_or_not q t) [
+        | inl same ↦
+            ap (λ o. option_map (at q) o) (ap (map.get tasks) same)
+            ∙ ap (λ r. option_map (at r) (map.get tasks t)) same
+            ∙ map_same (at t) change here (map.get tasks t)
+            ∙ sym (ap (λ b. cond b (option_map change (map.get tasks t)) (map.get tasks q)) (ap (λ r. nat_eq r t) same ∙ test_same t))
+        | inr apart ↦ map_id (at q) (λ u. other q u apart) (map.get tasks q) ∙ sym (ap (λ b. cond b (option_map change (map.get tasks t)) (map.get tasks q)) (test_apart q t apart))
+      ] ∙ sym (get_changed tasks t q change))

@@ -1,0 +1,19 @@
+use Rattle.std.proofs.Common.{◌≡◌, ap, sym, ◌∙◌, refl, rules, None}
+use Rattle.std.specs.Prelude.{map as each, slice_get}
+use Rattle.task_graph.specs.Inside.{shown_place}
+use Rattle.task_graph.specs.Weave.{link_of}
+use Rattle.task_graph.proofs.Additions.{no_link, shown_bare}
+use Rattle.task_graph.proofs.adding.bare.Goals as goal
+
+pub returns-clause-bare : goal.returns-clause-bare
+returns-clause-bare g c = record {
+  idle = refl;
+  asked = refl;
+  first = refl;
+  last = refl;
+  short = c.requires;
+  known = λ place. ap (λ xs. link_of (slice_get xs place)) c.known_places.ensures ∙ no_link c.args.inputs.now place;
+}
+
+pub returns-clause-inputs : goal.returns-clause-inputs
+returns-clause-inputs g c = ap (each shown_place) c.known_places.ensures ∙ shown_bare c.args.inputs.now

@@ -1,0 +1,16 @@
+use Rattle.std.proofs.Common.{◌≡◌, ap, refl, Some, None, subst, sym}
+use Rattle.std.specs.Option.{option_map}
+use Rattle.task_graph.specs.Inside.{entries_at, station_at, station_of}
+use Rattle.task_graph.specs.Callers.{caller_at, bounds_at, bounds_of}
+use Rattle.task_graph.specs.Order.{IsBehind}
+use Rattle.task_graph.proofs.parts.Parts.behind.Goals as goal
+
+pub returns-in-None : goal.returns-in-None
+returns-in-None g c =
+    subst (λ o. IsBehind (bounds_at (caller_at c.args.self.now.callers)) (station_at (entries_at c.args.self.now.entries)) c.args.caller o c.get-row.result.first) (sym c.in-None.is)
+    (bounds_of c.get-row.result, ap (option_map bounds_of) c.get-row.ensures, refl)
+
+pub returns-in-Some : goal.returns-in-Some
+returns-in-Some g c =
+    subst (λ o. IsBehind (bounds_at (caller_at c.args.self.now.callers)) (station_at (entries_at c.args.self.now.entries)) c.args.caller o c.get-entry.result.after) (sym c.in-Some.is)
+    (station_of c.get-entry.result, ap (option_map station_of) c.get-entry.ensures, refl)

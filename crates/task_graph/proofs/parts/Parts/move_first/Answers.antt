@@ -1,0 +1,33 @@
+use Rattle.std.proofs.Common.{◌≡◌, ℕ, Some, None, ap, sym, ◌∙◌, refl}
+use Rattle.std.specs.Option.{option_map}
+use Rattle.task_states.specs.States.{Graph, Known, Awaits}
+use Rattle.cht_ids.specs.declared.refs.Ref.{Ref}
+use Rattle.cht_ids.specs.declared.refs.Ref.TheVariants.{Null}
+use Rattle.task_graph.specs.Inside.{entries_at}
+use Rattle.task_graph.specs.Weave.{head_at, link_at, row_of}
+use Rattle.task_graph.specs.declared.entries.Link.{Link}
+use Rattle.task_graph.specs.Graphs.{graph_of}
+use Rattle.task_graph.proofs.Moves.{written_twice, one_moved, moved_graph, callers_moved}
+use Rattle.task_graph.proofs.parts.Parts.move_first.Goals as goal
+
+pub join-requires-clause-there : goal.join-requires-clause-there
+join-requires-clause-there g c = c.settle-link.ensures.there
+
+pub join-requires-clause-unasked : goal.join-requires-clause-unasked
+join-requires-clause-unasked g c = λ task head asked is at same.
+    let h = c.settle-link.ensures.untied.heads_from task head is in
+    c.requires.whole.woven.asked_apart c.args.spot c.settle-link.result task h.0 asked c.settle-link.ensures.link h.1 (sym h.4 ∙ at) (sym same)
+
+pub returns-clause-moved : goal.returns-clause-moved
+returns-clause-moved g c =
+    let tied = c.join.ensures.tied in
+    let writes = written_twice (graph_of c.args.self.now) (graph_of c.settle-link.new.self) (graph_of c.join.new.self) c.args.spot.task c.args.spot.place (Known Null) (Awaits c.args.to c.settle-link.result.number) c.settle-link.ensures.graph c.join.ensures.graph in
+    record {
+      link = c.settle-link.result;
+      was = c.settle-link.ensures.link;
+      here = (record { task = c.args.to; number = c.settle-link.result.number; next = tied.1 }, tied.2.here, refl);
+      rest = λ other apart. tied.2.rows other apart ∙ ap (option_map {U = ℕ × ℕ} (λ (l : Link). (l.task, l.number))) (c.settle-link.ensures.untied.rest other apart);
+      stopped = writes.0;
+      tasks = writes.1;
+      own = writes.2;
+    }

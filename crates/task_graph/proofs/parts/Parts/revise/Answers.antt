@@ -1,0 +1,23 @@
+use Rattle.std.proofs.Common.{◌≡◌, ℕ, Some, ap, subst, ◌∙◌, sym}
+use Rattle.task_graph.specs.declared.entries.Entry.{Entry}
+use Rattle.task_graph.specs.Inside.{entries_at, shown_entry}
+use Rattle.task_graph.specs.Graphs.{graph_of, with_revised}
+use Rattle.task_graph.proofs.Runs.{caller_low}
+use Rattle.task_graph.proofs.Weaving.{same_some}
+use Rattle.task_graph.proofs.Revising.{revised-graph, revised-whole}
+use Rattle.task_graph.proofs.parts.Parts.revise.Goals as goal
+
+pub count-requires : goal.count-requires
+count-requires g c = caller_low c.args.self.now c.requires.whole c.args.task c.get-entry.result c.get-entry.ensures
+
+pub returns-clause-whole : goal.returns-clause-whole
+returns-clause-whole g c =
+    revised-whole c.args.self.now c.count.new.self c.args.task c.get-entry.result c.args.runner c.args.asked c.args.running c.requires.whole c.get-entry.ensures (c.requires.revised c.get-entry.result c.get-entry.ensures)
+    (λ q. ap (λ es. entries_at es q) c.count.ensures.entries ∙ c.put.ensures.at q) c.count.ensures.callers c.count.ensures.len
+
+pub returns-clause-graph : goal.returns-clause-graph
+returns-clause-graph g c = λ entry is.
+    let one = same_some c.get-entry.result entry (sym c.get-entry.ensures ∙ is) in
+    subst (λ e. graph_of c.count.new.self ≡ with_revised (graph_of c.args.self.now) c.args.task (shown_entry e) c.args.runner c.args.asked) one
+    (revised-graph c.args.self.now c.count.new.self c.args.task c.get-entry.result c.args.runner c.args.asked c.args.running c.requires.whole c.get-entry.ensures (c.requires.revised c.get-entry.result c.get-entry.ensures)
+    (λ q. ap (λ es. entries_at es q) c.count.ensures.entries ∙ c.put.ensures.at q) c.count.ensures.callers c.count.ensures.len)

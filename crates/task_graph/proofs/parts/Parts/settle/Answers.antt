@@ -1,0 +1,22 @@
+use Rattle.std.proofs.Common.{◌≡◌, Some, None, ap, refl, sym, ◌∙◌}
+use Rattle.task_states.specs.States.{Known}
+use Rattle.task_graph.specs.Inside.{entries_at}
+use Rattle.task_graph.specs.Weave.{Head, head_at, link_at}
+use Rattle.task_graph.proofs.Keeping.{written-whole, written-graph, entry_behind_head}
+use Rattle.task_graph.proofs.parts.Parts.settle.Goals as goal
+
+pub returns-clause-whole : goal.returns-clause-whole
+returns-clause-whole g c =
+    let f = c.requires.first in
+    let h = c.requires.whole.woven.home c.args.spot f.0 f.2 in
+    let e = entry_behind_head (entries_at c.args.self.now.entries) c.args.spot.task h.0 h.2 in
+    written-whole c.args.self.now (record c.args.self.now { entries = c.settle.new.self }) c.args.spot (Known c.args.r) c.requires.whole e.0 e.1 (ap (λ (x : Head). x.runner) e.2 ∙ h.5) refl
+    c.settle.ensures.woven c.settle.ensures.stations c.settle.ensures.shown c.settle.ensures.counts
+
+pub returns-clause-graph : goal.returns-clause-graph
+returns-clause-graph g c =
+    let f = c.requires.first in
+    let h = c.requires.whole.woven.home c.args.spot f.0 f.2 in
+    let e = entry_behind_head (entries_at c.args.self.now.entries) c.args.spot.task h.0 h.2 in
+    written-graph c.args.self.now (record c.args.self.now { entries = c.settle.new.self }) c.args.spot (Known c.args.r) c.requires.whole e.0 e.1 (ap (λ (x : Head). x.runner) e.2 ∙ h.5) refl
+    c.settle.ensures.woven c.settle.ensures.stations c.settle.ensures.shown c.settle.ensures.counts

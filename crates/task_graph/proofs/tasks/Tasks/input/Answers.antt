@@ -1,0 +1,22 @@
+use Rattle.std.proofs.Common.{◌≡◌, Some, None, IsSome, ap, sym, subst, ◌∙◌, Option}
+use Rattle.std.specs.Prelude.{slice_get}
+use Rattle.std.specs.Option.{option_map}
+use Rattle.cht_ids.specs.declared.refs.Ref.{Ref}
+use Rattle.task_states.specs.States.{Input, task_at, input_at}
+use Rattle.task_graph.specs.Inside.{inputs_of}
+use Rattle.task_graph.specs.Contents.{Contents, input_of}
+use Rattle.task_graph.proofs.Marking.{entry_of}
+use Rattle.task_graph.proofs.Runs.{task_there}
+use Rattle.task_graph.proofs.Readings.{input_there}
+use Rattle.task_graph.proofs.tasks.Tasks.input.Goals as goal
+
+pub get-entry-requires : goal.get-entry-requires
+get-entry-requires g c = entry_of c.self.inside.held.parts c.args.task (subst (λ (v : Contents g.row.K.Denot). IsSome (task_at v.graph c.args.task)) (sym c.self.view_is) c.requires)
+
+pub input-requires : goal.input-requires
+input-requires g c = c.self.invariant.whole.short c.args.task c.get-entry.result c.get-entry.ensures
+
+pub returns : goal.returns
+returns g c =
+    subst (λ (v : Contents g.row.K.Denot). option_map input_of c.input.result ≡ input_at v.graph c.args.task c.args.place) c.self.view_is
+    (c.input.ensures ∙ input_there c.self.inside.held.parts c.args.task c.get-entry.result c.args.place c.get-entry.ensures)

@@ -1,0 +1,274 @@
+// The entries of tasks, and the lists of those that await each.
+ghost use Rattle.std.specs.Prelude.{◌≡◌, ◌<◌, ◌≤◌, ◌+◌, ℕ, cond, nat_eq, Some, None, IsSome};
+ghost use Rattle.std.specs.HashMap.{hash_map_len};
+ghost use Rattle.std.specs.Option.{option_map};
+ghost use Rattle.std.specs.List.{list_any};
+ghost use Rattle.task_states.specs.States.{is_awaiting, status_of};
+ghost use Rattle.task_graph.specs.declared.entries.Spot.{Spot as AnySpot};
+ghost use Rattle.task_graph.specs.Inside.{entries_at, put_in, room_of, IsSameSize, shown_place, place_at, is_spot, with_input, shown_at, station_at, with_runner_at, with_asked_at, shown_entry};
+ghost use Rattle.task_graph.specs.Weave.{head_at, link_at, with_next, with_ends, IsBeside, count_of};
+ghost use Rattle.task_graph.specs.Order.{with_after_at, with_before_at};
+
+use cht_ids::Ref;
+use std::collections::HashMap;
+use task_states::TaskStatus;
+
+// A place of an input of a task.
+#[derive(Clone, Copy)]
+pub(crate) struct Spot {
+    pub task: u128,
+    pub place: u32,
+}
+
+// What an awaiting input awaits, under which number, and the next input that awaits the same task.
+#[derive(Clone, Copy)]
+pub(crate) struct Link {
+    pub task: u128,
+    pub number: u128,
+    pub next: Option<Spot>,
+}
+
+// An input of a task.
+#[derive(Clone, Copy)]
+pub(crate) enum Place {
+    Known(Ref),
+    Awaits(Link),
+}
+
+// A task: its inputs are the first `count` places. The inputs that await it are a list in the order of their numbers, from
+// `first` to `last`; the tasks of its caller are one too, in which the task stands between `before` and `after`.
+#[derive(Clone, Copy)]
+pub(crate) struct Entry<K> {
+    pub caller: u32,
+    pub kind: K,
+    pub runner: Option<u32>,
+    pub asked: Option<u128>,
+    pub count: u32,
+    pub places: [Place; 4],
+    pub first: Option<Spot>,
+    pub last: Option<Spot>,
+    pub before: Option<u128>,
+    pub after: Option<u128>,
+}
+
+// All tasks by number.
+#[derive(Drop)]
+pub(crate) struct Entries<K> {
+    pub tasks: HashMap<u128, Entry<K>>,
+}
+
+impl<K: Copy> Entries<K> {
+    /// The entry of a task.
+    pub fn get(&self, task: u128) -> Entry<K>
+        requires { IsSome (entries_at self.now task) }
+        ensures { entries_at self.now task ≡ Some result }
+    {
+        *self.tasks.get(&task).unwrap()
+    }
+
+    // Writes the entry of a task.
+    pub fn put(&mut self, task: u128, entry: Entry<K>)
+        requires { IsSome (entries_at self.old task) }
+        ensures at { (q : ℕ) → entries_at self.new q ≡ put_in task entry (entries_at self.old) q }
+        ensures size { IsSameSize self.old self.new }
+    {
+        if let Some(place) = self.tasks.get_mut(&task) {
+            *place = entry;
+        }
+    }
+
+    // The input at a place.
+    fn input(&self, spot: Spot) -> Place
+        requires { IsSome (place_at (entries_at self.now) spot) }
+        ensures { place_at (entries_at self.now) spot ≡ Some result }
+    {
+        let entry = self.get(spot.task);
+        entry.places[spot.place as usize]
+    }
+
+    // The link of an input, where it awaits a task.
+    fn awaited(&self, spot: Spot) -> Option<Link>
+        requires { IsSome (place_at (entries_at self.now) spot) }
+        ensures { result ≡ link_at (entries_at self.now) spot }
+    {
+        match self.input(spot) {
+            Place::Known(_) => None,
+            Place::Awaits(link) => Some(link),
+        }
+    }
+
+    /// The link of an awaiting input.
+    pub fn link(&self, spot: Spot) -> Link
+        requires { IsSome (link_at (entries_at self.now) spot) }
+        ensures { link_at (entries_at self.now) spot ≡ Some result }
+    {
+        self.awaited(spot).unwrap()
+    }
+
+    // Writes the input at a place.
+    pub fn set_place(&mut self, spot: Spot, place: Place)
+        requires { IsSome (place_at (entries_at self.old) spot) }
+        ensures places { (p : AnySpot) → place_at (entries_at self.new) p ≡ cond (is_spot p spot) (Some place) (place_at (entries_at self.old) p) }
+        ensures heads { (q : ℕ) → head_at (entries_at self.new) q ≡ head_at (entries_at self.old) q }
+        ensures shown { (q : ℕ) → shown_at (entries_at self.new) q ≡ option_map (with_input q spot (shown_place place)) (shown_at (entries_at self.old) q) }
+        ensures stations { (q : ℕ) → station_at (entries_at self.new) q ≡ station_at (entries_at self.old) q }
+        ensures counts { (q : ℕ) → option_map count_of (entries_at self.new q) ≡ option_map count_of (entries_at self.old q) }
+        ensures size { IsSameSize self.old self.new }
+    {
+        let mut entry = self.get(spot.task);
+        entry.places[spot.place as usize] = place;
+        self.put(spot.task, entry);
+    }
+
+    // Writes the next one of an awaiting input.
+    pub fn set_next(&mut self, spot: Spot, next: Option<Spot>)
+        requires { IsSome (link_at (entries_at self.old) spot) }
+        ensures links { (p : AnySpot) → link_at (entries_at self.new) p ≡ option_map (with_next p spot next) (link_at (entries_at self.old) p) }
+        ensures heads { (q : ℕ) → head_at (entries_at self.new) q ≡ head_at (entries_at self.old) q }
+        ensures shown { (q : ℕ) → shown_at (entries_at self.new) q ≡ shown_at (entries_at self.old) q }
+        ensures stations { (q : ℕ) → station_at (entries_at self.new) q ≡ station_at (entries_at self.old) q }
+        ensures counts { (q : ℕ) → option_map count_of (entries_at self.new q) ≡ option_map count_of (entries_at self.old q) }
+        ensures size { IsSameSize self.old self.new }
+    {
+        let link = self.link(spot);
+        self.set_place(spot, Place::Awaits(Link { next, ..link }));
+    }
+
+    // Writes the first and the last of a task's list.
+    pub fn set_ends(&mut self, task: u128, first: Option<Spot>, last: Option<Spot>)
+        requires { IsSome (entries_at self.old task) }
+        ensures links { (p : AnySpot) → link_at (entries_at self.new) p ≡ link_at (entries_at self.old) p }
+        ensures places { (p : AnySpot) → place_at (entries_at self.new) p ≡ place_at (entries_at self.old) p }
+        ensures heads { (q : ℕ) → head_at (entries_at self.new) q ≡ option_map (with_ends q task first last) (head_at (entries_at self.old) q) }
+        ensures shown { (q : ℕ) → shown_at (entries_at self.new) q ≡ shown_at (entries_at self.old) q }
+        ensures stations { (q : ℕ) → station_at (entries_at self.new) q ≡ station_at (entries_at self.old) q }
+        ensures counts { (q : ℕ) → option_map count_of (entries_at self.new q) ≡ option_map count_of (entries_at self.old q) }
+        ensures size { IsSameSize self.old self.new }
+    {
+        let mut entry = self.get(task);
+        entry.first = first;
+        entry.last = last;
+        self.put(task, entry);
+    }
+
+    /// Writes the task that follows a task among those of its caller.
+    pub fn set_after(&mut self, task: u128, after: Option<u128>)
+        requires { IsSome (entries_at self.old task) }
+        ensures stations { (q : ℕ) → station_at (entries_at self.new) q ≡ option_map (with_after_at q (Some task) after) (station_at (entries_at self.old) q) }
+        ensures beside { IsBeside (entries_at self.old) (entries_at self.new) }
+        ensures size { IsSameSize self.old self.new }
+    {
+        let mut entry = self.get(task);
+        entry.after = after;
+        self.put(task, entry);
+    }
+
+    /// Writes the task that stands before a task among those of its caller.
+    pub fn set_before(&mut self, task: u128, before: Option<u128>)
+        requires { IsSome (entries_at self.old task) }
+        ensures stations { (q : ℕ) → station_at (entries_at self.new) q ≡ option_map (with_before_at q (Some task) before) (station_at (entries_at self.old) q) }
+        ensures beside { IsBeside (entries_at self.old) (entries_at self.new) }
+        ensures size { IsSameSize self.old self.new }
+    {
+        let mut entry = self.get(task);
+        entry.before = before;
+        self.put(task, entry);
+    }
+
+    /// Writes the worker that runs a task.
+    pub fn set_runner(&mut self, task: u128, runner: Option<u32>)
+        requires { IsSome (entries_at self.old task) }
+        ensures at { (q : ℕ) → entries_at self.new q ≡ option_map (with_runner_at q task runner) (entries_at self.old q) }
+        ensures size { IsSameSize self.old self.new }
+    {
+        let mut entry = self.get(task);
+        entry.runner = runner;
+        self.put(task, entry);
+    }
+
+    /// Writes the number of the asked output of a task.
+    pub fn set_asked(&mut self, task: u128, asked: Option<u128>)
+        requires { IsSome (entries_at self.old task) }
+        ensures at { (q : ℕ) → entries_at self.new q ≡ option_map (with_asked_at q task asked) (entries_at self.old q) }
+        ensures size { IsSameSize self.old self.new }
+    {
+        let mut entry = self.get(task);
+        entry.asked = asked;
+        self.put(task, entry);
+    }
+
+    /// One more task, for which there is room.
+    pub fn insert(&mut self, task: u128, entry: Entry<K>)
+        requires new { entries_at self.old task ≡ None }
+        requires room { 0 < room_of self.old }
+        ensures at { (q : ℕ) → entries_at self.new q ≡ put_in task entry (entries_at self.old) q }
+        ensures len { hash_map_len self.new.tasks ≡ hash_map_len self.old.tasks + 1 }
+        ensures room { room_of self.old ≤ room_of self.new + 1 }
+    {
+        let reserved: Result<_, _> = self.tasks.insert(task, entry);
+        reserved.unwrap();
+    }
+
+    /// Takes a task out.
+    pub fn remove(&mut self, task: u128) -> Entry<K>
+        requires { IsSome (entries_at self.old task) }
+        ensures entry { entries_at self.old task ≡ Some result }
+        ensures at { (q : ℕ) → entries_at self.new q ≡ cond (nat_eq q task) None (entries_at self.old q) }
+        ensures len { hash_map_len self.new.tasks + 1 ≡ hash_map_len self.old.tasks }
+        ensures room { room_of self.old ≤ room_of self.new }
+    {
+        self.tasks.remove(&task).unwrap()
+    }
+}
+
+impl Place {
+    // Whether the input awaits a task.
+    fn is_awaiting(&self) -> bool
+        ensures { result ≡ is_awaiting (shown_place self.now) }
+    {
+        match self {
+            Place::Known(_) => false,
+            Place::Awaits(_) => true,
+        }
+    }
+}
+
+// Whether one of these inputs awaits a task.
+fn any_awaits(places: &[Place]) -> bool
+    ensures { result ≡ list_any (λ place. is_awaiting (shown_place place)) places.now }
+{
+    places.iter().any(|place| place.is_awaiting())
+}
+
+impl<K: Copy> Entry<K> {
+    /// Whether an input awaits a task.
+    pub fn is_waiting(&self) -> bool
+        requires { self.now.count ≤ 4 }
+        ensures { result ≡ list_any is_awaiting (shown_entry self.now).inputs }
+    {
+        any_awaits(&self.places[..self.count as usize])
+    }
+
+    /// How far the task is.
+    pub fn status(&self) -> TaskStatus
+        requires { self.now.count ≤ 4 }
+        ensures { result ≡ status_of (shown_entry self.now) }
+    {
+        if self.is_waiting() {
+            TaskStatus::Waiting
+        } else if self.runner.is_some() {
+            TaskStatus::Running
+        } else {
+            TaskStatus::Ready
+        }
+    }
+}
+
+impl<K: Copy> Entries<K> {
+    /// The entry of a task, if there is one.
+    pub fn find(&self, task: u128) -> Option<Entry<K>>
+        ensures { result ≡ entries_at self.now task }
+    {
+        self.tasks.get(&task).copied()
+    }
+}

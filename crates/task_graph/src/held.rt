@@ -1,0 +1,280 @@
+// The fields behind `Tasks`, and its steps.
+ghost use Rattle.std.specs.Prelude.{◌≡◌, ◌+◌, ◌<◌, ◌≤◌, ℕ, Some, None, OnOk, IsOk, IsSome, true, length};
+ghost use Rattle.task_graph.specs.Graphs.{graph_of, IsWhole, AreQueued, AreQueuedBut, HasRoom, IsHeld};
+ghost use Rattle.task_graph.specs.Queue.{is_queued, IsQueue, queue_len, queue_capacity};
+ghost use Rattle.task_states.specs.declared.states.TaskStatus.TheVariants.{Ready, Running};
+ghost use Rattle.std.specs.HashMap.{hash_map_len};
+ghost use Rattle.task_graph.specs.declared.entries.Entry.{Entry as AnyEntry};
+ghost use Rattle.task_graph.specs.Inside.{shown_entry, entries_at};
+ghost use Rattle.task_states.specs.States.{no_tasks, status_of, status, task_at, AwaitsNothing};
+ghost use Rattle.task_states.specs.Awaiters.{IsFree, IsNotAwaited, IsLeastAwaiter};
+ghost use Rattle.task_states.specs.Steps.{added, with_asked, started, given_back, delivered, forwarded, removed, with_stopped, abandoned};
+ghost use Rattle.task_states.specs.declared.states.Awaiter.{Awaiter as AnyAwaiter};
+ghost use Rattle.task_graph.specs.Contents.{inputs_given, AreOf, AreFree, AreOfOneCaller, IsAskedOnce};
+
+use crate::callers::Callers;
+use crate::entries::{Entries, Entry};
+use crate::parts::Parts;
+use crate::queue::Queue;
+use cht_ids::{Memory, Ref};
+use std::alloc::Global;
+use std::collections::HashMap;
+use task_states::{Slot, TaskStatus};
+
+// The tasks, the numbers of those that can be run with others among them, and how many tasks can be added without memory.
+#[derive(Drop)]
+pub(crate) struct Held<K> {
+    pub parts: Parts<K>,
+    pub ready: Queue,
+    pub spare: u32,
+}
+
+// One more number, where its task is Ready.
+fn offer<K: Copy>(ready: &mut Queue, number: u128, entry: &Entry<K>)
+    requires queue { IsQueue ready.old }
+    requires short { entry.now.count ≤ 4 }
+    requires room { queue_len ready.old < queue_capacity ready.old }
+    ensures queue { IsQueue ready.new }
+    ensures here { status_of (shown_entry entry.now) ≡ Ready → is_queued number ready.new ≡ true }
+    ensures rest { (q : ℕ) → is_queued q ready.old ≡ true → is_queued q ready.new ≡ true }
+    ensures len { queue_len ready.new ≤ queue_len ready.old + 1 }
+    ensures capacity { queue_capacity ready.old ≤ queue_capacity ready.new }
+{
+    match entry.status() {
+        TaskStatus::Unknown => {}
+        TaskStatus::Waiting => {}
+        TaskStatus::Ready => ready.push(number),
+        TaskStatus::Running => {}
+    }
+}
+
+// The numbers of all Ready tasks, and no others.
+fn refill<K: Copy>(entries: &Entries<K>, ready: &mut Queue)
+    requires short { (q : ℕ) (entry : AnyEntry K) → entries_at entries.now q ≡ Some entry → entry.count ≤ 4 }
+    requires room { hash_map_len entries.now.tasks ≤ queue_capacity ready.old }
+    ensures queue { IsQueue ready.new }
+    ensures queued { (q : ℕ) (entry : AnyEntry K) → entries_at entries.now q ≡ Some entry → status_of (shown_entry entry) ≡ Ready → is_queued q ready.new ≡ true }
+    ensures capacity { queue_capacity ready.old ≤ queue_capacity ready.new }
+{
+    ready.clear();
+    for (number, entry) in entries.tasks.iter() {
+        offer(ready, *number, entry);
+    }
+}
+
+impl<K: Copy> Held<K> {
+    /// No tasks.
+    pub fn new(alloc: Global) -> Held<K>
+        ensures held { IsHeld result }
+        ensures graph { graph_of result.parts ≡ no_tasks }
+    {
+        Held {
+            parts: Parts {
+                entries: Entries {
+                    tasks: HashMap::new(alloc),
+                },
+                callers: Callers::new(),
+            },
+            ready: Queue::new(alloc),
+            spare: 0,
+        }
+    }
+
+    // Takes numbers out until the least is that of a task that can be run.
+    fn clean(&mut self)
+        requires whole { IsWhole self.old.parts }
+        requires queue { IsQueue self.old.ready }
+        requires queued { AreQueued self.old }
+        requires room { HasRoom self.old }
+        ensures held { IsHeld self.new }
+        ensures parts { self.new.parts ≡ self.old.parts }
+        ensures spare { self.new.spare ≡ self.old.spare }
+    {
+        while let Some(least) = self.ready.least() {
+            if self.parts.is_runnable(least) {
+                return;
+            }
+            self.ready.drop_least();
+        }
+    }
+
+    // One task more can be run.
+    fn enqueue(&mut self, task: u128)
+        requires whole { IsWhole self.old.parts }
+        requires queue { IsQueue self.old.ready }
+        requires queued { AreQueuedBut self.old task }
+        requires room { HasRoom self.old }
+        ensures held { IsHeld self.new }
+        ensures parts { self.new.parts ≡ self.old.parts }
+        ensures spare { self.new.spare ≡ self.old.spare }
+    {
+        if self.ready.is_full() {
+            refill(&self.parts.entries, &mut self.ready);
+            self.clean();
+        } else {
+            self.ready.push(task);
+            self.clean();
+        }
+    }
+
+    // One task may be run now that could not be before.
+    fn requeue(&mut self, task: u128)
+        requires whole { IsWhole self.old.parts }
+        requires queue { IsQueue self.old.ready }
+        requires queued { AreQueuedBut self.old task }
+        requires room { HasRoom self.old }
+        ensures held { IsHeld self.new }
+        ensures parts { self.new.parts ≡ self.old.parts }
+        ensures spare { self.new.spare ≡ self.old.spare }
+    {
+        if self.parts.is_runnable(task) {
+            self.enqueue(task);
+        } else {
+            self.clean();
+        }
+    }
+
+    /// Makes room for so many tasks.
+    pub fn reserve(&mut self, tasks: u32) -> Result<(), Memory>
+        requires { IsHeld self.old }
+        ensures held { IsHeld self.new }
+        ensures graph { graph_of self.new.parts ≡ graph_of self.old.parts }
+        ensures ok { OnOk result (tasks ≤ self.new.spare) }
+        ensures spare { self.old.spare ≤ self.new.spare }
+        ensures succeeds { tasks ≤ self.old.spare → IsOk result }
+    {
+        if tasks <= self.spare {
+            return Ok(());
+        }
+        let live = self.parts.entries.tasks.len();
+        if live >= 1 << 31 || tasks >= 1 << 31 {
+            return Err(Memory);
+        }
+        self.parts.reserve(tasks)?;
+        self.ready.reserve(2 * (live + tasks as usize))?;
+        self.spare = tasks;
+        Ok(())
+    }
+
+    /// One more task, with its inputs.
+    pub fn add(&mut self, task: u128, caller: u32, kind: K, inputs: &[Slot])
+        requires held { IsHeld self.old }
+        requires spare { 1 ≤ self.old.spare }
+        requires new { task_at (graph_of self.old.parts) task ≡ None }
+        requires caller { caller < 64 }
+        requires few { length inputs.now ≤ 4 }
+        requires callers { AreOf (graph_of self.old.parts) caller inputs.now }
+        requires numbers { AreFree (graph_of self.old.parts) inputs.now }
+        ensures held { IsHeld self.new }
+        ensures graph { graph_of self.new.parts ≡ added (graph_of self.old.parts) task caller kind (inputs_given inputs.now) }
+        ensures spare { self.old.spare ≡ self.new.spare + 1 }
+    {
+        self.parts.add(task, caller, kind, inputs);
+        self.spare -= 1;
+        self.requeue(task);
+    }
+
+    /// The caller of a task awaits it.
+    pub fn ask(&mut self, task: u128, number: u128)
+        requires held { IsHeld self.old }
+        requires there { IsSome (task_at (graph_of self.old.parts) task) }
+        requires free { IsFree (graph_of self.old.parts) number }
+        ensures held { IsHeld self.new }
+        ensures graph { graph_of self.new.parts ≡ with_asked (graph_of self.old.parts) task number }
+        ensures spare { self.new.spare ≡ self.old.spare }
+    {
+        self.parts.ask(task, number);
+        self.clean();
+    }
+
+    /// A worker runs a Ready task.
+    pub fn start(&mut self, task: u128, worker: u32)
+        requires held { IsHeld self.old }
+        requires ready { status (graph_of self.old.parts) task ≡ Ready }
+        ensures held { IsHeld self.new }
+        ensures graph { graph_of self.new.parts ≡ started (graph_of self.old.parts) task worker }
+        ensures spare { self.new.spare ≡ self.old.spare }
+    {
+        self.parts.start(task, worker);
+        self.clean();
+    }
+
+    /// No worker runs a Running task any more.
+    pub fn give_back(&mut self, task: u128)
+        requires held { IsHeld self.old }
+        requires running { status (graph_of self.old.parts) task ≡ Running }
+        ensures held { IsHeld self.new }
+        ensures graph { graph_of self.new.parts ≡ given_back (graph_of self.old.parts) task }
+        ensures spare { self.new.spare ≡ self.old.spare }
+    {
+        self.parts.give_back(task);
+        self.requeue(task);
+    }
+
+    /// The awaiter of a task with the least number gets a reference.
+    pub fn deliver(&mut self, task: u128, r: Ref)
+        requires held { IsHeld self.old }
+        requires there { IsSome (task_at (graph_of self.old.parts) task) }
+        requires awaited { IsNotAwaited (graph_of self.old.parts) task → ⊥ }
+        ensures held { IsHeld self.new }
+        ensures graph { (awaiter : AnyAwaiter) → IsLeastAwaiter (graph_of self.old.parts) task awaiter → graph_of self.new.parts ≡ delivered (graph_of self.old.parts) task awaiter r }
+        ensures spare { self.new.spare ≡ self.old.spare }
+    {
+        match self.parts.deliver(task, r) {
+            None => self.requeue(task),
+            Some(of) => self.requeue(of),
+        }
+    }
+
+    /// All that awaits one task awaits another of the same caller.
+    pub fn forward(&mut self, task: u128, to: u128)
+        requires held { IsHeld self.old }
+        requires callers { AreOfOneCaller (graph_of self.old.parts) task to }
+        requires apart { task ≡ to → ⊥ }
+        requires asked { IsAskedOnce (graph_of self.old.parts) task to }
+        ensures held { IsHeld self.new }
+        ensures graph { graph_of self.new.parts ≡ forwarded (graph_of self.old.parts) task to }
+        ensures spare { self.new.spare ≡ self.old.spare }
+    {
+        self.parts.forward(task, to);
+        self.clean();
+    }
+
+    /// A task that awaits nothing, and that nobody awaits, goes.
+    pub fn remove(&mut self, task: u128)
+        requires held { IsHeld self.old }
+        requires there { IsSome (task_at (graph_of self.old.parts) task) }
+        requires waits { AwaitsNothing (graph_of self.old.parts) task }
+        requires awaited { IsNotAwaited (graph_of self.old.parts) task }
+        ensures held { IsHeld self.new }
+        ensures graph { graph_of self.new.parts ≡ removed (graph_of self.old.parts) task }
+        ensures spare { self.new.spare ≡ self.old.spare }
+    {
+        self.parts.remove(task);
+        self.clean();
+    }
+
+    /// A caller is stopped.
+    pub fn stop(&mut self, caller: u32)
+        requires held { IsHeld self.old }
+        requires caller { caller < 64 }
+        ensures held { IsHeld self.new }
+        ensures graph { graph_of self.new.parts ≡ with_stopped (graph_of self.old.parts) caller }
+        ensures spare { self.new.spare ≡ self.old.spare }
+    {
+        self.parts.stop(caller);
+        self.clean();
+    }
+
+    /// All tasks of a caller go, and it is not stopped.
+    pub fn abandon(&mut self, caller: u32)
+        requires held { IsHeld self.old }
+        requires caller { caller < 64 }
+        ensures held { IsHeld self.new }
+        ensures graph { graph_of self.new.parts ≡ abandoned (graph_of self.old.parts) caller }
+        ensures spare { self.new.spare ≡ self.old.spare }
+    {
+        self.parts.abandon(caller);
+        self.clean();
+    }
+}

@@ -1,0 +1,15 @@
+//! The unfinished tasks of a core: which of them are ready, and who awaits whose output.
+#![tactic(auto)]
+
+mod abandoning;
+mod adding;
+mod callers;
+mod entries;
+mod held;
+mod parts;
+mod queue;
+mod reading;
+mod tasks;
+mod weave;
+
+pub use tasks::Tasks;

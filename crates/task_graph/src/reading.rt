@@ -1,0 +1,108 @@
+// What is read of tasks.
+ghost use Rattle.std.specs.Prelude.{◌≡◌, ◌<◌, ◌≤◌, ◌↔◌, ℕ, take, length, slice_get, option_map, Some, None, IsSome, IsTrue};
+ghost use Rattle.task_states.specs.Awaiters.{IsLeastOf, IsLater, IsWanted};
+ghost use Rattle.task_states.specs.States.{caller_of};
+ghost use Rattle.task_graph.specs.Inside.{inputs_of, shown_place};
+ghost use Rattle.task_graph.specs.Contents.{input_of};
+ghost use Rattle.task_graph.specs.Graphs.{graph_of, IsWhole};
+ghost use Rattle.task_graph.specs.Reading.{IsCeiling, is_wanted};
+ghost use Rattle.std.specs.List.{list_any};
+
+use crate::callers::Caller;
+use crate::entries::{Entry, Place};
+use crate::parts::Parts;
+use task_states::Slot;
+
+impl Place {
+    /// The input as callers give it.
+    fn slot(&self) -> Slot
+        ensures { input_of result ≡ shown_place self.now }
+    {
+        match self {
+            Place::Known(r) => Slot::Known(*r),
+            Place::Awaits(link) => Slot::Awaits(link.task, link.number),
+        }
+    }
+}
+
+impl<K: Copy> Entry<K> {
+    /// The input at a place, counted from 0, if there is one.
+    pub fn input(&self, place: u32) -> Option<Slot>
+        requires { self.now.count ≤ 4 }
+        ensures { option_map input_of result ≡ option_map shown_place (slice_get (inputs_of self.now) place) }
+    {
+        if place < self.count {
+            Some(self.places[place as usize].slot())
+        } else {
+            None
+        }
+    }
+}
+
+impl Caller {
+    // Whether the caller has a task and is not stopped.
+    fn is_wanted(&self) -> bool
+        ensures { result ≡ is_wanted self.now }
+    {
+        !self.stopped && self.first.is_some()
+    }
+}
+
+// Whether a caller that is not stopped has a task.
+fn any_wanted(rows: &[Caller]) -> bool
+    ensures { result ≡ list_any is_wanted rows.now }
+{
+    rows.iter().any(|row| row.is_wanted())
+}
+
+impl<K: Copy> Parts<K> {
+    // The least task of a caller above a number, looked for from a task of the caller on.
+    fn above(&self, caller: u32, after: u128, from: Option<u128>, last: u128) -> Option<u128>
+        requires whole { IsWhole self.now }
+        requires last { (task : ℕ) → caller_of (graph_of self.now) task ≡ Some caller → task ≤ last }
+        requires from { IsCeiling (graph_of self.now) caller after from }
+        ensures { IsLeastOf (IsLater (graph_of self.now) caller after) result }
+    {
+        let mut at = from;
+        while let Some(task) = at {
+            if task > after {
+                return at;
+            }
+            let entry = self.entries.get(task);
+            at = entry.after;
+        }
+        None
+    }
+
+    /// The least task of a caller above a number.
+    pub fn next_of(&self, caller: u32, after: u128) -> Option<u128>
+        requires whole { IsWhole self.now }
+        requires caller { caller < 64 }
+        ensures { IsLeastOf (IsLater (graph_of self.now) caller after) result }
+    {
+        if let Some(entry) = self.entries.find(after) {
+            if entry.caller == caller {
+                return entry.after;
+            }
+        }
+        let row = self.callers.get(caller);
+        match row.last {
+            None => None,
+            Some(last) => {
+                if last <= after {
+                    None
+                } else {
+                    self.above(caller, after, row.first, last)
+                }
+            }
+        }
+    }
+
+    /// Whether a task has a caller that is not stopped.
+    pub fn any(&self) -> bool
+        requires { IsWhole self.now }
+        ensures { IsTrue result ↔ ((task : ℕ) × IsWanted (graph_of self.now) task) }
+    {
+        any_wanted(&self.callers.rows)
+    }
+}
