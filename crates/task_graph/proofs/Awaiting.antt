@@ -1,5 +1,5 @@
 -- Who awaits a task, behind the fields.
-use Rattle.std.proofs.Common.{◌≡◌, ℕ, ◌+◌, ◌-◌, ◌<◌, ◌≤◌, Bool, true, false, cond, ◌||◌, Option, Some, None, is_some, IsSome, nat_eq, refl, sym, ap, subst, ◌∙◌, ◌⊎◌, inl, inr, arith, List, [], ◌∷◌, suc, zero}
+use Rattle.std.proofs.Common.{◌≡◌, ℕ, ◌<◌, ◌≤◌, true, false, cond, Option, Some, None, is_some, nat_eq, refl, sym, ap, subst, ◌∙◌, inl, inr, arith, List, [], ◌∷◌, suc, zero}
 use Rattle.std.specs.Prelude.{slice_get, map as each, if◌then◌else◌}
 use Rattle.std.specs.List.{list_any}
 use Rattle.std.specs.Option.{option_map}
@@ -8,9 +8,9 @@ use Rattle.cht_ids.specs.declared.refs.Ref.{Ref}
 use Rattle.task_states.specs.declared.states.Awaiter.{Awaiter}
 use Rattle.task_states.specs.declared.states.Awaiter.TheVariants.{Input as AtInput, Asked}
 use Rattle.task_states.specs.declared.states.TaskStatus.TheVariants.{Waiting, Ready, Running}
-use Rattle.task_states.specs.States.{Input, Known as KnownInput, Awaits as AwaitsTask, Unfinished, Graph, is_awaiting, task_at, input_at, status, status_of, AwaitsNothing}
+use Rattle.task_states.specs.States.{Input, Known as KnownInput, Awaits as AwaitsTask, Unfinished, Graph, is_awaiting, input_at, status, AwaitsNothing}
 use Rattle.task_states.specs.Steps.{removed}
-use Rattle.task_states.specs.Awaiters.{IsAsked, IsAwaiter, IsNotAwaited, IsLeastAwaiter, number_of}
+use Rattle.task_states.specs.Awaiters.{IsAsked, IsAwaiter, IsNotAwaited, IsLeastAwaiter}
 use Rattle.task_states.proofs.Maps.{same_or_not, test_same, test_apart, same_maps, get_inserted, get_removed}
 use Rattle.task_graph.specs.declared.entries.Entry.{Entry}
 use Rattle.task_graph.specs.declared.entries.Link.{Link}
@@ -18,8 +18,8 @@ use Rattle.task_graph.specs.declared.entries.Place.{Place}
 use Rattle.task_graph.specs.declared.entries.Place.TheVariants.{Known, Awaits}
 use Rattle.task_graph.specs.declared.entries.Spot.{Spot}
 use Rattle.task_graph.specs.declared.parts.Parts.{Parts}
-use Rattle.task_graph.specs.Inside.{put_in, shown_entry, shown_place, shown_at, entries_at, place_in, place_at, inputs_of}
-use Rattle.task_graph.specs.Weave.{Leads, Head, row_of, head_at, head_of, link_at, link_of}
+use Rattle.task_graph.specs.Inside.{put_in, shown_entry, shown_place, entries_at, place_in, place_at, inputs_of}
+use Rattle.task_graph.specs.Weave.{Leads, row_of, head_at, head_of, link_at, link_of}
 use Rattle.task_graph.specs.Graphs.{graph_of, IsWhole, IsIdle, with_revised}
 use Rattle.task_graph.proofs.Chains.{not_none, row_with, same_key}
 use Rattle.task_graph.proofs.Weaving.{same_some, row_is, link_is}

@@ -1,5 +1,5 @@
 -- Entries whose tasks are linked in another way among those of a caller.
-use Rattle.std.proofs.Common.{◌≡◌, ℕ, true, false, cond, Option, Some, None, IsSome, nat_eq, refl, sym, ap, subst, ◌∙◌}
+use Rattle.std.proofs.Common.{◌≡◌, ℕ, true, cond, Option, Some, None, IsSome, nat_eq, refl, ap, ◌∙◌}
 use Rattle.std.specs.Option.{option_map}
 use Rattle.task_states.proofs.Maps.{test_apart}
 use Rattle.task_graph.specs.declared.entries.Entry.{Entry}

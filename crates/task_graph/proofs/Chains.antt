@@ -1,5 +1,5 @@
 -- Rows in groups, by rising keys: what leads on from a bound once a row is put in or taken out.
-use Rattle.std.proofs.Common.{◌≡◌, ℕ, ◌<◌, ◌≤◌, Option, Some, None, refl, sym, ap, subst, ◌∙◌, ◌⊎◌, inl, inr, arith}
+use Rattle.std.proofs.Common.{◌≡◌, ℕ, ◌<◌, Option, Some, None, sym, ap, subst, ◌∙◌, ◌⊎◌, inl, inr, arith}
 use Rattle.std.specs.Option.{unwrap_or}
 use Rattle.task_states.proofs.Maps.{same_or_not as cases_eq}
 use Rattle.task_graph.specs.Weave.{Above, Leads}

@@ -1,27 +1,16 @@
 -- A task whose worker or whose asked output changes.
-use Rattle.std.proofs.Common.{◌≡◌, ℕ, ◌+◌, ◌<◌, ◌≤◌, Bool, true, false, cond, ◌&&◌, List, [], ◌∷◌, Option, Some, None, is_some, IsSome, nat_eq, refl, sym, ap, subst, ◌∙◌, ◌⊎◌, inl, inr, arith, length}
+use Rattle.std.proofs.Common.{◌≡◌, ℕ, cond, Option, Some, None, nat_eq, refl, sym, ap, ◌∙◌, inl, inr}
 use Rattle.std.specs.Option.{option_map}
-use Rattle.std.specs.List.{list_any}
-use Rattle.std.specs.Prelude.{slice_get, map as each, if◌then◌else◌}
 use Rattle.std.specs.FinMap as map
 use Rattle.std.specs.Ordering.{nat_cmp}
 use Rattle.cht_ids.specs.declared.refs.Ref.{Ref}
-use Rattle.task_states.specs.declared.states.TaskStatus.{TaskStatus}
-use Rattle.task_states.specs.declared.states.TaskStatus.TheVariants.{Unknown, Waiting, Ready, Running}
-use Rattle.task_states.specs.States.{Input, Unfinished, Graph, is_awaiting, status_of, is_running, is_run_for, running, task_at}
+use Rattle.task_states.specs.States.{Unfinished}
 use Rattle.task_states.specs.Maps.{put_at}
-use Rattle.task_states.specs.Steps.{with_task}
 use Rattle.task_states.proofs.Maps.{same_or_not, test_same, test_apart, same_maps, get_inserted}
-use Rattle.task_graph.specs.declared.callers.Caller.{Caller}
-use Rattle.task_graph.specs.declared.entries.Entry.{Entry}
 use Rattle.task_graph.specs.declared.entries.Link.{Link}
 use Rattle.task_graph.specs.declared.entries.Spot.{Spot}
-use Rattle.task_graph.specs.declared.parts.Parts.{Parts}
-use Rattle.task_graph.specs.Weave.{Head, IsWoven, IsLeft, link_of, link_at, head_at, head_of}
-use Rattle.task_graph.specs.Inside.{shown_entry, shown_at, entries_at, place_in, inputs_of}
-use Rattle.task_graph.specs.Graphs.{tasks_of, graph_of}
-use Rattle.task_graph.proofs.Chains.{not_none}
-use Rattle.task_graph.proofs.Weaving.{same_some, left-woven}
+use Rattle.task_graph.specs.Weave.{Head, IsWoven}
+use Rattle.task_graph.proofs.Weaving.{left-woven}
 use Rattle.task_graph.proofs.Tying.{map_behind}
 
 -- heads that keep their callers and their lists

@@ -1,15 +1,14 @@
 -- All that holds of the fields still holds once a task comes that awaits nothing, or goes, or a caller is stopped.
-use Rattle.std.proofs.Common.{◌≡◌, ℕ, ◌+◌, ◌<◌, ◌≤◌, Bool, true, false, cond, ◌&&◌, ◌||◌, Option, Some, None, is_some, IsSome, nat_eq, refl, sym, ap, subst, ◌∙◌, ◌⊎◌, inl, inr, arith, length, List}
-use Rattle.std.specs.Prelude.{slice_get, if◌then◌else◌}
+use Rattle.std.proofs.Common.{◌≡◌, ℕ, ◌≤◌, Bool, true, false, cond, ◌&&◌, ◌||◌, Option, Some, None, is_some, nat_eq, refl, sym, ap, subst, ◌∙◌, ◌⊎◌, inl, inr, arith, length}
+use Rattle.std.specs.Prelude.{if◌then◌else◌}
 use Rattle.std.specs.List.{list_any}
 use Rattle.task_states.specs.declared.states.TaskStatus.TheVariants.{Waiting, Ready, Running}
 use Rattle.std.specs.Option.{option_map}
 use Rattle.std.specs.FinMap as map
 use Rattle.std.specs.FinSet as numbers
-use Rattle.std.specs.Ordering.{nat_cmp}
 use Rattle.std.specs.Cmp.{nat_cmp_total}
 use Rattle.cht_ids.specs.declared.refs.Ref.{Ref}
-use Rattle.task_states.specs.States.{Unfinished, Graph, is_run_for, running, is_running, status_of, task_at, is_awaiting}
+use Rattle.task_states.specs.States.{Unfinished, is_run_for, running, is_running, is_awaiting}
 use Rattle.task_states.specs.Steps.{removed, added, with_stopped}
 use Rattle.task_states.proofs.Maps.{same_or_not, test_same, test_apart, same_maps, get_inserted, get_removed}
 use Rattle.task_states.specs.States.{Input}
@@ -25,8 +24,8 @@ use Rattle.task_graph.specs.declared.entries.Entries.{Entries}
 use Rattle.task_graph.specs.declared.entries.Link.{Link}
 use Rattle.task_graph.specs.declared.entries.Spot.{Spot}
 use Rattle.task_graph.specs.declared.parts.Parts.{Parts}
-use Rattle.task_graph.specs.Weave.{Head, IsWoven, IsLeft, IsBeside, IsInserted, IsWithout, Middle, link_of, link_at, head_at, head_of, count_of}
-use Rattle.task_graph.specs.Inside.{shown_entry, shown_at, entries_at, place_in, place_at, station_at}
+use Rattle.task_graph.specs.Weave.{Head, IsWoven, IsBeside, IsInserted, IsWithout, Middle, link_of, link_at, head_at, head_of, count_of}
+use Rattle.task_graph.specs.Inside.{shown_entry, shown_at, entries_at, place_in, station_at}
 use Rattle.task_graph.specs.Callers.{caller_at, bounds_at, bounds_of, load_at, load_of, Load}
 use Rattle.task_graph.specs.Order.{IsOrdered}
 use Rattle.task_graph.specs.Graphs.{tasks_of, graph_of, stopped_from, IsWhole, IsIdle, IsBare}

@@ -1,5 +1,6 @@
 mod Additions
 mod Awaiting
+mod Strangers
 mod Besides
 mod Chains
 mod Changes

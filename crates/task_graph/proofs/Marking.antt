@@ -1,16 +1,15 @@
 -- Which workers and asked outputs a task may have.
-use Rattle.std.proofs.Common.{◌≡◌, ℕ, ◌+◌, ◌-◌, ◌<◌, ◌≤◌, ◌^◌, Bool, true, false, cond, ◌&&◌, ◌||◌, Option, Some, None, is_some, IsSome, nat_eq, refl, sym, ap, subst, ◌∙◌, ◌⊎◌, inl, inr, arith, length, List, [], ◌∷◌, suc, zero}
+use Rattle.std.proofs.Common.{◌≡◌, ℕ, ◌+◌, ◌-◌, ◌≤◌, Bool, true, false, cond, ◌&&◌, ◌||◌, Option, Some, None, is_some, IsSome, nat_eq, refl, sym, ap, subst, ◌∙◌, inl, inr, arith, length, List, [], ◌∷◌, suc, zero}
 use Rattle.std.specs.Prelude.{slice_get, map as each, if◌then◌else◌}
 use Rattle.std.specs.Option.{option_map}
 use Rattle.std.specs.List.{list_any}
 use Rattle.std.specs.FinMap as map
-use Rattle.std.specs.Ordering.{nat_cmp}
 use Rattle.cht_ids.specs.declared.refs.Ref.{Ref}
 use Rattle.task_states.specs.declared.states.TaskStatus.{TaskStatus}
 use Rattle.task_states.specs.declared.states.TaskStatus.TheVariants.{Unknown, Waiting, Ready, Running}
-use Rattle.task_states.specs.declared.states.Awaiter.TheVariants.{Input as AtInput, Asked}
-use Rattle.task_states.specs.States.{Input, Known, Awaits as AwaitsTask, Unfinished, Graph, is_awaiting, task_at, input_at, status, status_of, is_running, is_run_for}
-use Rattle.task_states.specs.Steps.{with_task, started, given_back, with_asked, without_asked}
+use Rattle.task_states.specs.declared.states.Awaiter.TheVariants.{Input as AtInput}
+use Rattle.task_states.specs.States.{Input, Awaits as AwaitsTask, Unfinished, Graph, is_awaiting, task_at, input_at, status, status_of, is_running, is_run_for}
+use Rattle.task_states.specs.Steps.{with_task}
 use Rattle.task_states.specs.Awaiters.{IsFree}
 use Rattle.task_states.specs.Maps.{put_at}
 use Rattle.std.specs.List.{IsDistinct}
@@ -26,9 +25,9 @@ use Rattle.task_graph.specs.declared.entries.Place.{Place}
 use Rattle.task_graph.specs.declared.entries.Place.TheVariants.{Awaits}
 use Rattle.task_graph.specs.declared.entries.Spot.{Spot}
 use Rattle.task_graph.specs.declared.parts.Parts.{Parts}
-use Rattle.task_graph.specs.Inside.{shown_entry, shown_place, shown_at, entries_at, place_in, place_at, inputs_of}
+use Rattle.task_graph.specs.Inside.{shown_entry, shown_place, entries_at, place_in, place_at, inputs_of}
 use Rattle.task_graph.specs.Weave.{Head, link_at, link_of, head_of, head_at, IsUnused}
-use Rattle.task_graph.specs.Graphs.{graph_of, tasks_of, IsWhole, IsRevised, with_revised, run_for}
+use Rattle.task_graph.specs.Graphs.{graph_of, tasks_of, IsWhole, IsRevised, run_for}
 use Rattle.task_graph.proofs.Chains.{not_none}
 use Rattle.task_graph.proofs.Weaving.{same_some, none_or_some}
 use Rattle.task_graph.proofs.Writing.{awaits_behind}

@@ -1,15 +1,13 @@
 -- One input after another comes to await another task.
-use Rattle.std.proofs.Common.{◌≡◌, ℕ, ◌+◌, ◌-◌, ◌<◌, ◌≤◌, ◌^◌, Bool, true, false, cond, Option, Some, None, is_some, IsSome, nat_eq, refl, sym, ap, subst, ◌∙◌, ◌⊎◌, inl, inr, arith, List, [], ◌∷◌, suc, zero, length}
-use Rattle.std.specs.Prelude.{slice_get, set, map as each, if◌then◌else◌, ◌==◌}
+use Rattle.std.proofs.Common.{◌≡◌, ℕ, ◌-◌, ◌<◌, ◌^◌, Bool, true, false, cond, Option, Some, None, IsSome, nat_eq, refl, sym, ap, subst, ◌∙◌, inl, inr, arith, List, [], ◌∷◌, suc, zero}
+use Rattle.std.specs.Prelude.{slice_get, set, map as each, if◌then◌else◌}
 use Rattle.std.specs.Option.{option_map}
 use Rattle.std.specs.FinMap as map
-use Rattle.std.specs.Ordering.{nat_cmp}
 use Rattle.cht_ids.specs.declared.refs.Ref.{Ref}
-use Rattle.cht_ids.specs.declared.refs.Ref.TheVariants.{Null}
 use Rattle.std.proofs.lemmas.Bool.Decides.{nat_tests}
 use Rattle.task_states.specs.States.{Input, Known, Awaits, Unfinished, Graph, task_at, caller_of, asked_of}
 use Rattle.task_states.specs.Steps.{with_task, redirected, inputs_redirected, with_asked}
-use Rattle.task_states.specs.Maps.{put_at, each_changed}
+use Rattle.task_states.specs.Maps.{each_changed}
 use Rattle.task_states.proofs.Maps.{same_or_not, test_same, test_apart, same_maps, get-each_changed}
 use Rattle.task_graph.specs.declared.entries.Entry.{Entry}
 use Rattle.task_graph.specs.declared.entries.Link.{Link}
@@ -18,10 +16,9 @@ use Rattle.task_graph.specs.declared.parts.Parts.{Parts}
 use Rattle.task_graph.specs.Inside.{entries_at, shown_entry, place_at}
 use Rattle.task_graph.specs.Weave.{Head, Leads, row_of, head_at, head_of, link_at, IsFirst, IsUnused, rest_in, rest_from, rest_after, rest_first}
 use Rattle.task_graph.specs.Graphs.{graph_of, IsWhole}
-use Rattle.task_graph.specs.Contents.{AreOfOneCaller}
 use Rattle.task_graph.specs.Moving.{IsInputMoved, IsTaskMoved, AreMoved, IsMovable, IsMoved}
-use Rattle.task_graph.proofs.Chains.{not_none, same_key, row_with}
-use Rattle.task_graph.proofs.Weaving.{same_some, same_spot, row_is, link_is, none_or_some}
+use Rattle.task_graph.proofs.Chains.{not_none, same_key}
+use Rattle.task_graph.proofs.Weaving.{same_some, row_is, link_is, none_or_some}
 use Rattle.task_graph.proofs.Tying.{map_behind}
 use Rattle.task_graph.proofs.Changes.{get_changed}
 use Rattle.task_graph.proofs.Awaiting.{first_link, no_input}

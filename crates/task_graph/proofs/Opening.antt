@@ -1,5 +1,5 @@
 -- Where there is no task, all holds.
-use Rattle.std.proofs.Common.{◌≡◌, ℕ, ◌+◌, ◌<◌, ◌≤◌, ◌^◌, Bool, true, false, cond, Option, Some, None, is_some, IsSome, nat_eq, refl, sym, ap, subst, ◌∙◌, ◌⊎◌, inl, inr, arith, List, [], ◌∷◌, length, suc, zero}
+use Rattle.std.proofs.Common.{◌≡◌, ℕ, ◌<◌, ◌≤◌, false, Some, None, nat_eq, refl, sym, ap, subst, ◌∙◌, inl, inr, arith, List, [], ◌∷◌, length, suc, zero}
 use Rattle.std.specs.Prelude.{slice_get}
 use Rattle.std.specs.Option.{option_map}
 use Rattle.std.specs.FinMap as map
@@ -9,8 +9,7 @@ use Rattle.std.specs.Cmp.{nat_cmp_total}
 use Rattle.std.specs.HashMap.{hash_map_len}
 use Rattle.std.proofs.lemmas.Bool.{cases_lt}
 use Rattle.cht_ids.specs.declared.refs.Ref.{Ref}
-use Rattle.task_states.specs.States.{Unfinished, no_tasks, task_at, running, is_run_for}
-use Rattle.task_states.specs.Maps.{kept}
+use Rattle.task_states.specs.States.{Unfinished, no_tasks, task_at, is_run_for}
 use Rattle.task_states.specs.Awaiters.{IsRunnable}
 use Rattle.task_states.proofs.Maps.{len-kept}
 use Rattle.task_graph.specs.declared.callers.Caller.{Caller}
@@ -18,13 +17,13 @@ use Rattle.task_graph.specs.declared.entries.Entry.{Entry}
 use Rattle.task_graph.specs.declared.entries.Spot.{Spot}
 use Rattle.task_graph.specs.declared.held.Held.{Held}
 use Rattle.task_graph.specs.declared.parts.Parts.{Parts}
-use Rattle.task_graph.specs.Inside.{entries_at, shown_entry, place_in, station_at, station_of}
+use Rattle.task_graph.specs.Inside.{entries_at, place_in, station_at, station_of}
 use Rattle.task_graph.specs.Callers.{caller_at, bounds_at, bounds_of}
 use Rattle.task_graph.specs.Weave.{Head, Leads, head_at, head_of, link_at, link_of}
 use Rattle.task_graph.specs.Order.{Bounds, row_at, IsTail}
 use Rattle.std.specs.Map.{lookup}
 use Rattle.task_graph.specs.Graphs.{tasks_of, graph_of, stopped_from, IsWhole, IsHeld}
-use Rattle.task_graph.specs.Queue.{is_queued, IsQueue, queue_len, queue_capacity}
+use Rattle.task_graph.specs.Queue.{is_queued, IsQueue}
 use Rattle.task_graph.proofs.Chains.{not_none}
 use Rattle.task_graph.proofs.Weaving.{same_some}
 use Rattle.task_graph.proofs.Orders.{station_of_row}

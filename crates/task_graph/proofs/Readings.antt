@@ -1,24 +1,24 @@
 -- What is read of the fields is so of the tasks.
-use Rattle.std.proofs.Common.{◌≡◌, ℕ, ◌+◌, ◌-◌, ◌<◌, ◌≤◌, Bool, true, false, cond, not, ◌&&◌, Option, Some, None, is_some, IsSome, nat_eq, refl, sym, ap, subst, ◌∙◌, ◌⊎◌, inl, inr, arith, List, [], ◌∷◌, ◌||◌, length, zero, suc}
+use Rattle.std.proofs.Common.{◌≡◌, ℕ, ◌<◌, ◌≤◌, Bool, true, false, not, ◌&&◌, Option, Some, None, is_some, IsSome, refl, sym, ap, subst, ◌∙◌, inl, inr, arith, List, [], ◌∷◌, ◌||◌, zero, suc}
 use Rattle.std.specs.Prelude.{slice_get, IsTrue, ◌↔◌}
 use Rattle.std.specs.List.{list_any}
 use Rattle.std.specs.Option.{option_map}
 use Rattle.std.proofs.lemmas.Bool.{cases_lt}
 use Rattle.cht_ids.specs.declared.refs.Ref.{Ref}
-use Rattle.task_states.specs.States.{Input, Unfinished, Graph, task_at, caller_of, input_at, is_stopped}
+use Rattle.task_states.specs.States.{Input, Unfinished, task_at, caller_of, input_at, is_stopped}
 use Rattle.task_states.specs.Awaiters.{IsLeastOf, IsLater, IsRunnable, IsWanted}
 use Rattle.task_graph.specs.declared.callers.Caller.{Caller}
 use Rattle.task_graph.specs.declared.entries.Entry.{Entry}
 use Rattle.task_graph.specs.declared.held.Held.{Held}
 use Rattle.task_graph.specs.declared.parts.Parts.{Parts}
 use Rattle.task_graph.specs.Inside.{Station, inputs_of, shown_place, entries_at, shown_entry, station_at, station_of}
-use Rattle.task_graph.specs.Callers.{caller_at, bounds_at, bounds_of}
+use Rattle.task_graph.specs.Callers.{caller_at, bounds_of}
 use Rattle.task_graph.specs.Weave.{Leads}
-use Rattle.task_graph.specs.Order.{Bounds, row_at, IsTail}
+use Rattle.task_graph.specs.Order.{row_at, IsTail}
 use Rattle.task_graph.specs.Graphs.{graph_of, IsWhole, IsHeld}
 use Rattle.task_graph.specs.Queue.{IsQueueLeast}
 use Rattle.task_graph.specs.Reading.{IsCeiling, HasWanted, is_wanted, rest_to}
-use Rattle.task_graph.proofs.Chains.{not_none, row_with, same_key}
+use Rattle.task_graph.proofs.Chains.{not_none, row_with}
 use Rattle.task_graph.proofs.Weaving.{same_some, none_or_some}
 use Rattle.task_graph.proofs.Tying.{map_behind}
 use Rattle.task_graph.proofs.Orders.{row_of_station, station_of_row}

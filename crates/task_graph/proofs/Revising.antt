@@ -1,30 +1,24 @@
 -- All that holds of the fields still holds once a task has another worker or another asked output.
-use Rattle.std.proofs.Common.{◌≡◌, ℕ, ◌+◌, ◌<◌, ◌≤◌, Bool, true, false, cond, ◌&&◌, Option, Some, None, is_some, IsSome, nat_eq, refl, sym, ap, subst, ◌∙◌, ◌⊎◌, inl, inr, arith, length, List, [], ◌∷◌, suc}
+use Rattle.std.proofs.Common.{◌≡◌, ℕ, ◌+◌, ◌≤◌, Bool, true, false, cond, ◌&&◌, Option, Some, None, nat_eq, refl, sym, ap, subst, ◌∙◌, inl, inr, arith, length, List, [], ◌∷◌, suc}
 use Rattle.std.specs.Option.{option_map}
 use Rattle.std.specs.Prelude.{slice_get}
 use Rattle.std.specs.FinSet as numbers
 use Rattle.std.specs.FinMap as map
-use Rattle.std.specs.Ordering.{nat_cmp}
-use Rattle.cht_ids.specs.declared.refs.Ref.{Ref}
-use Rattle.task_states.specs.States.{Unfinished, Graph, is_run_for, running, task_at, status_of, is_running}
+use Rattle.task_states.specs.States.{is_run_for, running, status_of, is_running}
 use Rattle.task_states.proofs.Maps.{same_or_not, test_same, test_apart, same_maps, get_inserted}
 use Rattle.task_graph.specs.declared.callers.Caller.{Caller}
-use Rattle.task_graph.specs.declared.callers.Callers.{Callers}
 use Rattle.task_graph.specs.declared.entries.Entry.{Entry}
-use Rattle.task_graph.specs.declared.entries.Link.{Link}
 use Rattle.task_graph.specs.declared.entries.Spot.{Spot}
 use Rattle.task_graph.specs.declared.parts.Parts.{Parts}
 use Rattle.task_graph.specs.Weave.{Head, IsWoven, link_of, link_at, head_at, head_of}
-use Rattle.task_graph.specs.Inside.{Station, put_in, shown_entry, shown_at, entries_at, place_in, place_at, inputs_of, station_at, station_of}
+use Rattle.task_graph.specs.Inside.{put_in, shown_entry, shown_at, entries_at, place_in, station_at, station_of}
 use Rattle.task_graph.specs.Callers.{caller_at, bounds_at, bounds_of, with_running_at}
-use Rattle.task_graph.specs.Order.{Bounds, IsOrdered}
+use Rattle.task_graph.specs.Order.{IsOrdered}
 use Rattle.task_graph.specs.Graphs.{tasks_of, graph_of, stopped_from, IsWhole, IsRevised, with_revised, run_for}
-use Rattle.task_graph.proofs.Chains.{not_none}
 use Rattle.task_graph.proofs.Weaving.{same_some}
 use Rattle.task_graph.proofs.Tying.{map_behind}
 use Rattle.task_graph.proofs.Changes.{reheaded-woven}
 use Rattle.task_graph.proofs.Counting.{count_changed, passes}
-use Rattle.task_graph.proofs.Views.{get-tasks_of}
 use Rattle.task_graph.proofs.Runs.{task_is, task_there}
 
 -- the stopped callers, where no flag changed

@@ -1,18 +1,18 @@
 -- Which tasks can be run, behind the fields.
-use Rattle.std.proofs.Common.{◌≡◌, ℕ, ◌<◌, Bool, true, false, cond, Option, Some, None, nat_eq, refl, sym, ap, subst, ◌∙◌, ◌⊎◌, inl, inr, arith, length, List, [], ◌∷◌, zero, suc}
-use Rattle.std.specs.Option.{option_map, IsSome}
+use Rattle.std.proofs.Common.{◌≡◌, ℕ, ◌<◌, Bool, true, false, Option, Some, None, refl, sym, ap, subst, ◌∙◌, arith, length, List, [], ◌∷◌, zero, suc}
+use Rattle.std.specs.Option.{option_map}
 use Rattle.std.specs.Prelude.{slice_get, IsTrue, ◌↔◌, not}
 use Rattle.std.proofs.Common.{rules}
 use Rattle.cht_ids.specs.declared.refs.Ref.{Ref}
 use Rattle.task_states.specs.declared.states.TaskStatus.{TaskStatus}
-use Rattle.task_states.specs.declared.states.TaskStatus.TheVariants.{Unknown, Waiting, Ready, Running}
-use Rattle.task_states.specs.States.{Unfinished, Graph, task_at, status, status_of, is_stopped}
+use Rattle.task_states.specs.declared.states.TaskStatus.TheVariants.{Unknown, Ready}
+use Rattle.task_states.specs.States.{Unfinished, task_at, status, status_of, is_stopped}
 use Rattle.task_states.specs.Awaiters.{IsRunnable}
 use Rattle.task_graph.specs.declared.callers.Caller.{Caller}
 use Rattle.task_graph.specs.declared.entries.Entry.{Entry}
 use Rattle.task_graph.specs.declared.parts.Parts.{Parts}
 use Rattle.task_graph.specs.Inside.{shown_entry, shown_at, entries_at, station_of}
-use Rattle.task_graph.specs.Callers.{caller_at, bounds_at, bounds_of}
+use Rattle.task_graph.specs.Callers.{caller_at, bounds_of}
 use Rattle.task_graph.specs.Order.{Bounds}
 use Rattle.task_graph.specs.Graphs.{graph_of, IsWhole}
 use Rattle.task_graph.proofs.Chains.{not_none}

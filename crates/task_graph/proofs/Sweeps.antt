@@ -1,6 +1,5 @@
 -- The tasks of a caller go.
-use Rattle.std.proofs.Common.{◌≡◌, ℕ, ◌+◌, ◌<◌, ◌≤◌, ◌^◌, Bool, true, false, cond, not, ◌&&◌, ◌||◌, Option, Some, None, is_some, IsSome, nat_eq, refl, sym, ap, subst, ◌∙◌, ◌⊎◌, inl, inr, arith, List, length}
-use Rattle.std.specs.Prelude.{slice_get}
+use Rattle.std.proofs.Common.{◌≡◌, ℕ, ◌≤◌, true, false, cond, not, ◌&&◌, Option, Some, None, nat_eq, refl, sym, ap, subst, ◌∙◌, ◌⊎◌, inl, inr, arith, length}
 use Rattle.std.specs.Option.{option_map, option_and_then}
 use Rattle.std.specs.FinMap as map
 use Rattle.std.specs.FinSet as numbers
@@ -8,7 +7,7 @@ use Rattle.std.specs.Ordering.{nat_cmp}
 use Rattle.std.specs.Cmp.{nat_cmp_total, unsigned_tied}
 use Rattle.std.proofs.lemmas.Bool.{cases_lt}
 use Rattle.cht_ids.specs.declared.refs.Ref.{Ref}
-use Rattle.task_states.specs.States.{Unfinished, Graph, task_at, running, is_run_for, is_running, status_of}
+use Rattle.task_states.specs.States.{Unfinished, running, is_run_for, is_running, status_of}
 use Rattle.task_states.specs.Steps.{abandoned}
 use Rattle.task_states.specs.Maps.{kept}
 use Rattle.task_states.proofs.Maps.{same_or_not, test_same, test_apart, same_maps, get-kept}
@@ -17,13 +16,13 @@ use Rattle.task_graph.specs.declared.entries.Entry.{Entry}
 use Rattle.task_graph.specs.declared.entries.Link.{Link}
 use Rattle.task_graph.specs.declared.entries.Spot.{Spot}
 use Rattle.task_graph.specs.declared.parts.Parts.{Parts}
-use Rattle.task_graph.specs.Inside.{Station, entries_at, shown_entry, shown_at, place_in, station_at, station_of}
+use Rattle.task_graph.specs.Inside.{Station, entries_at, shown_entry, place_in, station_at, station_of}
 use Rattle.task_graph.specs.Callers.{caller_at, bounds_at, bounds_of}
-use Rattle.task_graph.specs.Weave.{Head, Leads, IsLeft, head_at, head_of, link_at, link_of, row_of}
-use Rattle.task_graph.specs.Order.{Bounds, row_at, IsOrdered, IsReached, IsTail}
+use Rattle.task_graph.specs.Weave.{Head, Leads, head_at, head_of, link_at, link_of}
+use Rattle.task_graph.specs.Order.{Bounds, row_at, IsReached, IsTail}
 use Rattle.task_graph.specs.Graphs.{tasks_of, graph_of, stopped_from, IsWhole}
 use Rattle.task_graph.specs.Sweeping.{IsBefore, IsSwept}
-use Rattle.task_graph.proofs.Chains.{not_none, row_with, same_key}
+use Rattle.task_graph.proofs.Chains.{not_none, row_with}
 use Rattle.task_graph.proofs.Weaving.{same_some, left-woven, leads_alike, none_or_some}
 use Rattle.task_graph.proofs.Tying.{map_behind}
 use Rattle.task_graph.proofs.Orders.{row_of_station, station_of_row}

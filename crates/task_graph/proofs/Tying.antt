@@ -1,12 +1,12 @@
 -- An input that is written into a list joins it.
-use Rattle.std.proofs.Common.{◌≡◌, ℕ, Bool, true, false, cond, ◌&&◌, Option, Some, None, IsSome, is_some, nat_eq, refl, sym, ap, subst, ◌∙◌, ◌⊎◌, inl, inr, arith}
+use Rattle.std.proofs.Common.{◌≡◌, ℕ, true, false, cond, ◌&&◌, Option, Some, None, nat_eq, refl, sym, ap, ◌∙◌, ◌⊎◌, inl, inr, arith}
 use Rattle.std.specs.Option.{option_map}
 use Rattle.std.proofs.lemmas.Bool.Decides.{nat_tests}
 use Rattle.task_states.proofs.Maps.{same_or_not, test_same, test_apart}
 use Rattle.task_graph.specs.declared.entries.Link.{Link}
 use Rattle.task_graph.specs.declared.entries.Spot.{Spot}
 use Rattle.task_graph.specs.Inside.{is_spot}
-use Rattle.task_graph.specs.Weave.{Head, row_of, is_at, with_next_at, with_ends, instead, last_behind, IsGap, IsJoined, IsRelinked, IsTied, IsUntied}
+use Rattle.task_graph.specs.Weave.{Head, is_at, with_next_at, with_ends, instead, last_behind, IsGap, IsJoined, IsRelinked, IsTied, IsUntied}
 use Rattle.task_graph.proofs.Chains.{not_none}
 use Rattle.task_graph.proofs.Weaving.{same_spot, same_some}
 

@@ -1,20 +1,20 @@
 -- The tasks that contracts see, behind the fields.
-use Rattle.std.proofs.Common.{◌≡◌, ◌≢◌, ℕ, suc, zero, ◌+◌, ◌≤◌, ◌<◌, Bool, true, false, cond, ◌||◌, List, [], ◌∷◌, length, Option, Some, None, is_some, nat_eq, refl, sym, ap, ◌∙◌, ◌⊎◌, inl, inr, arith}
+use Rattle.std.proofs.Common.{◌≡◌, ℕ, suc, zero, ◌+◌, ◌<◌, Bool, true, false, cond, ◌||◌, List, [], ◌∷◌, length, Option, Some, None, is_some, nat_eq, refl, ap, ◌∙◌, arith}
 use Rattle.std.specs.Prelude.{map as each, slice_get}
 use Rattle.std.specs.Option.{option_map}
 use Rattle.std.specs.List.{IsDistinct, list_any}
 use Rattle.std.specs.Map.{lookup, keys_of}
-use Rattle.std.specs.Ordering.{nat_cmp, eq_by_cmp}
-use Rattle.std.specs.Cmp.{nat_cmp_total, nat_eq_equiv, unsigned_tied, unsigned_ties}
+use Rattle.std.specs.Ordering.{nat_cmp}
+use Rattle.std.specs.Cmp.{nat_cmp_total, nat_eq_equiv, unsigned_tied}
 use Rattle.std.specs.FinMap as map
 use Rattle.std.specs.FinSet as numbers
 use Rattle.std.proofs.lemmas.Bool.Decides.{nat_tests}
 use Rattle.std.proofs.lemmas.Map.{lookup-none}
 use Rattle.std.proofs.lemmas.Map.Keys.{IsDistinct-tail}
 use Rattle.std.proofs.lemmas.Map.Entries.{none_past_head}
-use Rattle.task_states.specs.States.{Input, Unfinished, is_awaiting}
+use Rattle.task_states.specs.States.{Unfinished, is_awaiting}
 use Rattle.cht_ids.specs.declared.refs.Ref.{Ref}
-use Rattle.task_states.proofs.Maps.{same_or_not, test_same, test_apart}
+use Rattle.task_states.proofs.Maps.{test_same, test_apart}
 use Rattle.task_graph.specs.declared.callers.Caller.{Caller}
 use Rattle.task_graph.specs.declared.entries.Entry.{Entry}
 use Rattle.task_graph.specs.declared.entries.Place.{Place}

@@ -3,7 +3,7 @@ use Rattle.std.proofs.Common.{◌≡◌, ℕ, ◌<◌, ◌≤◌, ◌^◌, ◌-�
 use Rattle.task_graph.specs.declared.entries.Link.{Link}
 use Rattle.task_graph.specs.declared.entries.Spot.{Spot}
 use Rattle.task_graph.specs.Weave.{Leads, Head, row_of, IsWoven, IsGap, IsUnused, IsBelow, rest_in, rest_from, IsEnd}
-use Rattle.task_graph.proofs.Chains.{not_none, same_key, row_with}
+use Rattle.task_graph.proofs.Chains.{same_key, row_with}
 use Rattle.task_graph.proofs.Weaving.{same_some, row_is, link_is}
 
 pub some_is : {X : Type 0} (o : Option X) (x : X) → o ≡ Some x → IsSome o

@@ -5,7 +5,7 @@ use Rattle.std.proofs.lemmas.Bool.{cases_lt}
 use Rattle.task_states.proofs.Maps.{same_or_not}
 use Rattle.task_graph.specs.declared.entries.Spot.{Spot}
 use Rattle.task_graph.specs.declared.entries.Link.{Link}
-use Rattle.task_graph.specs.Weave.{Above, Leads, Head, row_of, IsEnd, last_behind, IsWoven, IsGap, IsJoined, IsRelinked, IsTied, IsUntied, IsLeft}
+use Rattle.task_graph.specs.Weave.{Above, Leads, Head, row_of, IsEnd, last_behind, IsWoven, IsGap, IsJoined, IsTied, IsUntied, IsLeft}
 use Rattle.task_graph.proofs.Chains.{not_none, same_key, row_with, leads_from_new, leads_to_new, leads_still, leads_over, leads_past}
 
 pub same_spot : (a b : Spot) → (a ≡ b) ⊎ (a ≡ b → ⊥)

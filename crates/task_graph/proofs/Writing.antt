@@ -1,5 +1,5 @@
 -- What the writes of entries make of places, heads, stations and of what contracts see.
-use Rattle.std.proofs.Common.{◌≡◌, ℕ, zero, suc, Bool, true, false, cond, ◌&&◌, List, [], ◌∷◌, length, Option, Some, None, IsSome, is_some, nat_eq, refl, sym, ap, subst, ◌∙◌, ◌⊎◌, inl, inr, set, take, arith}
+use Rattle.std.proofs.Common.{◌≡◌, ℕ, zero, suc, true, false, cond, ◌&&◌, List, [], ◌∷◌, Option, Some, None, IsSome, nat_eq, refl, sym, ap, subst, ◌∙◌, inl, inr, set, take, arith}
 use Rattle.std.specs.Prelude.{slice_get, map as each}
 use Rattle.std.specs.Option.{option_map}
 use Rattle.cht_ids.specs.declared.refs.Ref.{Ref}
@@ -11,8 +11,8 @@ use Rattle.task_graph.specs.declared.entries.Place.{Place}
 use Rattle.task_graph.specs.declared.entries.Place.TheVariants.{Known, Awaits}
 use Rattle.task_graph.specs.declared.entries.Spot.{Spot}
 use Rattle.task_graph.specs.declared.entries.Link.{Link}
-use Rattle.task_graph.specs.Inside.{put_in, inputs_of, shown_place, shown_entry, place_in, place_at, is_spot, with_input, shown_at, station_of, station_at}
-use Rattle.task_graph.specs.Weave.{head_of, head_at, link_of, link_at}
+use Rattle.task_graph.specs.Inside.{put_in, inputs_of, shown_place, shown_entry, place_in, place_at, is_spot, with_input, shown_at}
+use Rattle.task_graph.specs.Weave.{link_of, link_at}
 
 suc_zero : (k : ℕ) → nat_eq (suc k) 0 ≡ false
 suc_zero k = grind (arith, nat_tests)

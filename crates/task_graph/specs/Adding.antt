@@ -1,5 +1,5 @@
 -- A task comes with its inputs, one after another.
-use Rattle.std.specs.Prelude.{◌≡◌, ℕ, zero, suc, ◌<◌, ◌⊎◌, List, [], ◌∷◌, slice_get, map as each, Option, Some}
+use Rattle.std.specs.Prelude.{◌≡◌, ℕ, zero, suc, ◌<◌, ◌⊎◌, List, [], ◌∷◌, slice_get, map as each, Some}
 use Rattle.cht_ids.specs.declared.refs.Ref.{Ref}
 use Rattle.cht_ids.specs.declared.refs.Ref.TheVariants.{Null}
 use Rattle.task_states.specs.declared.states.Slot.{Slot}
@@ -11,7 +11,7 @@ use Rattle.task_graph.specs.declared.entries.Place.{Place}
 use Rattle.task_graph.specs.declared.entries.Place.TheVariants.{Known as KnownPlace}
 use Rattle.task_graph.specs.declared.entries.Spot.{Spot}
 use Rattle.task_graph.specs.declared.parts.Parts.{Parts}
-use Rattle.task_graph.specs.Inside.{entries_at, IsSameSize}
+use Rattle.task_graph.specs.Inside.{entries_at}
 use Rattle.task_graph.specs.Weave.{link_at}
 use Rattle.task_graph.specs.Contents.{input_of}
 use Rattle.task_graph.specs.Graphs.{graph_of, IsWhole}

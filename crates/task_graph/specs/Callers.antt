@@ -1,5 +1,5 @@
 -- What is kept for each caller.
-use Rattle.std.specs.Prelude.{ℕ, Bool, cond, nat_eq, slice_get, Option, None, Some}
+use Rattle.std.specs.Prelude.{ℕ, Bool, cond, nat_eq, slice_get, Option}
 use Rattle.std.specs.Option.{option_map}
 use Rattle.task_graph.specs.declared.callers.Caller.{Caller}
 use Rattle.task_graph.specs.declared.callers.Callers.{Callers}

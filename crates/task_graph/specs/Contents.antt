@@ -1,11 +1,10 @@
 -- What contracts see of `Tasks`, and what its calls want.
-use Rattle.std.specs.Prelude.{◌≡◌, ℕ, List, [], ◌∷◌, map as each, Option, None, Some, refl}
+use Rattle.std.specs.Prelude.{◌≡◌, ℕ, List, [], ◌∷◌, map as each, Some, refl}
 use Rattle.std.specs.Coded.{Coded, code_by, coded×, coded_ℕ}
 use Rattle.cht_ids.specs.declared.refs.Ref.{Ref}
 use Rattle.task_states.specs.declared.states.Slot.{Slot}
 use Rattle.task_states.specs.declared.states.Slot.TheVariants.{Known, Awaits}
-use Rattle.task_states.specs.declared.states.Awaiter.{Awaiter}
-use Rattle.task_states.specs.States.{Input, Known as KnownInput, Awaits as AwaitsTask, Unfinished, Graph, task_at, caller_of, asked_of}
+use Rattle.task_states.specs.States.{Input, Known as KnownInput, Awaits as AwaitsTask, Graph, caller_of, asked_of}
 use Rattle.task_states.specs.Awaiters.{IsFree}
 use Rattle.task_states.specs.Codes.{graph_code, ref_code}
 

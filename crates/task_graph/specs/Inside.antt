@@ -1,5 +1,5 @@
 -- How the fields behind `Tasks` stand for tasks. No contract that a caller sees speaks of these.
-use Rattle.std.specs.Prelude.{◌≡◌, ℕ, cond, length, nat_eq, take, Bool, ◌&&◌, List, map as each, set, slice_get, Option, None, Some}
+use Rattle.std.specs.Prelude.{◌≡◌, ℕ, cond, nat_eq, take, Bool, ◌&&◌, List, map as each, set, slice_get, Option, None, Some}
 use Rattle.std.specs.Map.{lookup}
 use Rattle.std.specs.Option.{option_map}
 use Rattle.std.specs.HashMap.{spare, hash_map_len}

@@ -1,6 +1,5 @@
 -- One input after another comes to await another task.
-use Rattle.std.specs.Prelude.{◌≡◌, ℕ, ◌<◌, ◌⊎◌, slice_get, set, Option, None, Some}
-use Rattle.std.specs.Option.{option_map}
+use Rattle.std.specs.Prelude.{◌≡◌, ℕ, ◌⊎◌, slice_get, set, Option, None, Some}
 use Rattle.cht_ids.specs.declared.refs.Ref.{Ref}
 use Rattle.task_states.specs.States.{Input, Awaits, Unfinished, Graph, task_at}
 use Rattle.task_graph.specs.declared.entries.Link.{Link}

@@ -118,17 +118,18 @@ impl<K: Copy> Tasks<K> {
 
     /// The awaiter of a task with the least number; `None` exactly where nobody awaits the task.
     pub fn awaiter(&self, task: TaskNo) -> Option<Awaiter>
-        requires { IsSome (task_at self.now.graph task) }
         ensures { IsAwaiterFound self.now.graph task result }
     {
-        self.held.parts.awaiter(task)
+        match self.held.parts.entries.find(task) {
+            None => None,
+            Some(_) => self.held.parts.awaiter(task),
+        }
     }
 
     /// Gives a reference to the awaiter of a task with the least number, which awaits no more. A task whose last input came
     /// is Ready then.
     pub fn deliver(&mut self, task: TaskNo, r: Ref)
-        requires there { IsSome (task_at self.old.graph task) }
-        requires awaited { IsNotAwaited self.old.graph task → ⊥ }
+        requires { IsNotAwaited self.old.graph task → ⊥ }
         ensures graph { (awaiter : AnyAwaiter) → IsLeastAwaiter self.old.graph task awaiter → self.new.graph ≡ delivered self.old.graph task awaiter r }
         ensures spare { self.new.spare ≡ self.old.spare }
     {

@@ -1,4 +1,4 @@
-use Rattle.std.proofs.Common.{◌≡◌, ap, sym, ◌∙◌, refl, rules, None}
+use Rattle.std.proofs.Common.{ap, ◌∙◌, refl}
 use Rattle.std.specs.Prelude.{map as each, slice_get}
 use Rattle.task_graph.specs.Inside.{shown_place}
 use Rattle.task_graph.specs.Weave.{link_of}

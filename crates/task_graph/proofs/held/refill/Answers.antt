@@ -1,4 +1,4 @@
-use Rattle.std.proofs.Common.{◌≡◌, ◌<◌, ◌≤◌, refl, sym, ◌∙◌, arith}
+use Rattle.std.proofs.Common.{◌∙◌, arith}
 use Rattle.task_graph.proofs.Refilling.{refill_start, refill_room, refill_at, refill_step, refill_end}
 use Rattle.task_graph.proofs.held.refill.Goals as goal
 

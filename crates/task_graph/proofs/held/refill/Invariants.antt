@@ -1,4 +1,4 @@
-use Rattle.std.proofs.Common.{◌≡◌, ◌≤◌}
+use Rattle.std.proofs.Common.{◌≤◌}
 use Rattle.task_graph.specs.Graphs.{IsRefilled}
 use Rattle.task_graph.specs.Queue.{IsQueue, queue_capacity}
 use Rattle.task_graph.proofs.held.refill.Given as goal

@@ -1,4 +1,4 @@
-use Rattle.std.proofs.Common.{◌≡◌, ◌<◌, None, Some, subst, sym, ap, refl, ◌∙◌}
+use Rattle.std.proofs.Common.{None, subst, sym, ap, refl}
 use Rattle.std.specs.Option.{option_map}
 use Rattle.task_graph.specs.Inside.{entries_at}
 use Rattle.task_graph.specs.Weave.{head_at, head_of, link_at, IsEnd, IsGap}

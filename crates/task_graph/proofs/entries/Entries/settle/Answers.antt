@@ -1,4 +1,4 @@
-use Rattle.std.proofs.Common.{◌≡◌, Some, ap, sym, ◌∙◌, cond, None}
+use Rattle.std.proofs.Common.{◌≡◌, Some, ap, sym, ◌∙◌, cond}
 use Rattle.std.specs.Option.{option_map}
 use Rattle.task_graph.specs.declared.entries.Link.{Link}
 use Rattle.task_graph.specs.declared.entries.Place.TheVariants.{Known}

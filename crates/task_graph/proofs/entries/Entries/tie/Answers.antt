@@ -1,7 +1,7 @@
-use Rattle.std.proofs.Common.{◌≡◌, Some, ap, sym, ◌∙◌, cond}
+use Rattle.std.proofs.Common.{◌≡◌, Some, ap, sym, ◌∙◌}
 use Rattle.std.specs.Option.{option_map}
 use Rattle.task_graph.specs.declared.entries.Place.TheVariants.{Awaits}
-use Rattle.task_graph.specs.Inside.{entries_at, is_spot}
+use Rattle.task_graph.specs.Inside.{entries_at}
 use Rattle.task_graph.specs.Weave.{head_at, link_at, head_of, with_next_at, with_ends, instead}
 use Rattle.task_graph.proofs.Writing.{link_placed}
 use Rattle.task_graph.proofs.Tying.{tied}

@@ -1,6 +1,6 @@
-use Rattle.std.proofs.Common.{◌≡◌, ◌<◌, None, Some, subst, sym}
+use Rattle.std.proofs.Common.{◌<◌, subst, sym}
 use Rattle.task_graph.specs.Inside.{entries_at}
-use Rattle.task_graph.specs.Weave.{head_at, link_at, IsBelow, rest_from, rest_in}
+use Rattle.task_graph.specs.Weave.{head_at, link_at, IsBelow, rest_from}
 use Rattle.task_graph.proofs.Walking.{some_is, next_there, gap_at_end, gap_at, step_on, nearer}
 use Rattle.task_graph.proofs.entries.Entries.walk.Goals as goal
 

@@ -1,8 +1,6 @@
-use Rattle.std.proofs.Common.{◌≡◌, Some, None, refl, subst, sym, ap, ◌+◌, ◌≤◌}
+use Rattle.std.proofs.Common.{refl, subst, sym, ◌+◌, ◌≤◌}
 use Rattle.task_states.specs.Awaiters.{IsRunnable}
-use Rattle.task_graph.specs.declared.parts.Parts.{Parts}
 use Rattle.task_graph.specs.Graphs.{graph_of, IsWhole}
-use Rattle.task_graph.specs.Queue.{IsQueueLeast}
 use Rattle.std.specs.HashMap.{hash_map_len}
 use Rattle.task_graph.proofs.Runs.{true_is, false_is}
 use Rattle.task_graph.proofs.Cleaning.{same_least, no_least, still_queued}

@@ -1,11 +1,7 @@
-use Rattle.std.proofs.Common.{◌≡◌, Some, None, refl, subst, ap, sym, ◌∙◌, inl, inr, ◌⊎◌}
-use Rattle.task_states.specs.States.{Graph}
+use Rattle.std.proofs.Common.{subst}
 use Rattle.task_states.specs.Awaiters.{IsRunnable}
 use Rattle.task_graph.specs.Graphs.{graph_of}
-use Rattle.task_graph.proofs.Chains.{not_none}
-use Rattle.task_graph.proofs.Weaving.{same_some}
-use Rattle.task_graph.proofs.Marking.{unused_of}
-use Rattle.task_graph.proofs.Runnables.{runs_changed, runs_same, runs_started, runs_redirected, runs_added, runs_removed, runs_stopped, runs_abandoned, runs_forwarded}
+use Rattle.task_graph.proofs.Runnables.{runs_forwarded}
 use Rattle.task_graph.proofs.held.Held.forward.Goals as goal
 
 pub clean-requires-clause-queued : goal.clean-requires-clause-queued

@@ -1,4 +1,4 @@
-use Rattle.std.proofs.Common.{◌≡◌, ◌≤◌, refl, arith}
+use Rattle.std.proofs.Common.{refl, arith}
 use Rattle.task_graph.proofs.Reordering.{reordered_graph, reordered_held}
 use Rattle.task_graph.proofs.held.Held.reserve.Goals as goal
 

@@ -1,6 +1,4 @@
-use Rattle.std.proofs.Common.{◌≡◌, ◌<◌, ◌≤◌, Some, None, ap, sym, subst, ◌∙◌, refl}
-use Rattle.task_states.specs.States.{caller_of}
-use Rattle.task_states.specs.Awaiters.{IsLeastOf, IsLater}
+use Rattle.std.proofs.Common.{◌<◌, Some, ap, sym, subst, ◌∙◌, refl}
 use Rattle.task_graph.specs.Inside.{entries_at}
 use Rattle.task_graph.specs.Graphs.{graph_of}
 use Rattle.task_graph.specs.Reading.{IsCeiling, rest_to}

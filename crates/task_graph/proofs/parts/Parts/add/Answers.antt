@@ -1,12 +1,11 @@
-use Rattle.std.proofs.Common.{◌≡◌, ◌≤◌, ◌+◌, ℕ, Some, None, ap, sym, subst, ◌∙◌, arith, length, refl, inl, inr, get_or}
+use Rattle.std.proofs.Common.{◌≡◌, ◌≤◌, ◌+◌, Some, ap, sym, subst, ◌∙◌, arith, length, inl, inr, get_or}
 use Rattle.std.specs.HashMap.{hash_map_len}
 use Rattle.cht_ids.specs.declared.refs.Ref.TheVariants.{Null}
 use Rattle.task_states.specs.declared.states.Slot.TheVariants.{Known}
 use Rattle.task_graph.specs.declared.parts.Parts.{Parts}
-use Rattle.task_states.specs.States.{Graph}
 use Rattle.task_states.specs.Steps.{added}
 use Rattle.task_graph.specs.Inside.{room_of, shown_entry}
-use Rattle.task_graph.specs.Adding.{IsAdding, mixed, bare_input}
+use Rattle.task_graph.specs.Adding.{IsAdding, mixed}
 use Rattle.task_graph.specs.Graphs.{graph_of}
 use Rattle.task_graph.proofs.Additions.{adding_none, adding_known, adding_more, spot_there, spot_free, spot_home, spot_unused, spot_unasked, of_at, free_at, earlier_at, mixed_all, get_at, slot_cases, none_entry}
 use Rattle.task_graph.proofs.parts.Parts.add.Goals as goal

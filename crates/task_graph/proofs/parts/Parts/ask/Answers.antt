@@ -1,12 +1,10 @@
-use Rattle.std.proofs.Common.{◌≡◌, ◌≤◌, ◌+◌, Some, None, sym, ap, subst, ◌∙◌, arith, refl}
-use Rattle.task_states.specs.declared.states.TaskStatus.TheVariants.{Unknown, Waiting, Ready, Running}
+use Rattle.std.proofs.Common.{Some, sym, subst, ◌∙◌}
 use Rattle.task_graph.specs.Inside.{entries_at, shown_entry}
 use Rattle.task_graph.specs.Graphs.{graph_of, IsRevised}
 use Rattle.task_graph.proofs.Weaving.{same_some}
-use Rattle.task_graph.proofs.Marking.{entry_of, entry_of_status, unused_of, start_revised, start_few, back_revised, back_some, ask_revised, as_changed}
+use Rattle.task_graph.proofs.Marking.{entry_of, ask_revised, as_changed}
 use Rattle.task_graph.proofs.Runs.{caller_low, task_there}
 use Rattle.task_graph.specs.Weave.{IsUnused, link_at}
-use Rattle.task_graph.proofs.Chains.{not_none}
 use Rattle.task_graph.proofs.parts.Parts.ask.Goals as goal
 
 pub get-entry-requires : goal.get-entry-requires

@@ -1,4 +1,4 @@
-use Rattle.std.proofs.Common.{◌≡◌, ◌≤◌, None, Some, sym, subst, ap, ◌∙◌, arith}
+use Rattle.std.proofs.Common.{sym, ap, ◌∙◌, arith}
 use Rattle.task_graph.specs.Inside.{entries_at}
 use Rattle.std.specs.Option.{option_map}
 use Rattle.task_graph.specs.Weave.{link_at, head_at, head_of}

@@ -1,4 +1,4 @@
-use Rattle.std.proofs.Common.{◌≡◌, ap, refl, Some, None, subst, sym}
+use Rattle.std.proofs.Common.{ap, refl, subst, sym}
 use Rattle.std.specs.Option.{option_map}
 use Rattle.task_graph.specs.Inside.{entries_at, station_at, station_of}
 use Rattle.task_graph.specs.Callers.{caller_at, bounds_at, bounds_of}

@@ -1,6 +1,5 @@
 use Rattle.std.proofs.Common.{◌≡◌, sym, ◌∙◌}
-use Rattle.task_states.specs.declared.states.TaskStatus.{TaskStatus}
-use Rattle.task_states.specs.declared.states.TaskStatus.TheVariants.{Unknown, Waiting, Ready, Running}
+use Rattle.task_states.specs.declared.states.TaskStatus.TheVariants.{Waiting, Ready, Running}
 use Rattle.task_graph.proofs.Runs.{runnable_there, not_runnable, runnable_ready, runnable_going, caller_low, no_iff, not_iff}
 use Rattle.task_graph.proofs.parts.Parts.is_runnable.Goals as goal
 

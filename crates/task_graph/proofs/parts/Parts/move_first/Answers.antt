@@ -1,13 +1,10 @@
-use Rattle.std.proofs.Common.{◌≡◌, ℕ, Some, None, ap, sym, ◌∙◌, refl}
+use Rattle.std.proofs.Common.{ℕ, ap, sym, ◌∙◌, refl}
 use Rattle.std.specs.Option.{option_map}
-use Rattle.task_states.specs.States.{Graph, Known, Awaits}
-use Rattle.cht_ids.specs.declared.refs.Ref.{Ref}
+use Rattle.task_states.specs.States.{Known, Awaits}
 use Rattle.cht_ids.specs.declared.refs.Ref.TheVariants.{Null}
-use Rattle.task_graph.specs.Inside.{entries_at}
-use Rattle.task_graph.specs.Weave.{head_at, link_at, row_of}
 use Rattle.task_graph.specs.declared.entries.Link.{Link}
 use Rattle.task_graph.specs.Graphs.{graph_of}
-use Rattle.task_graph.proofs.Moves.{written_twice, one_moved, moved_graph, callers_moved}
+use Rattle.task_graph.proofs.Moves.{written_twice}
 use Rattle.task_graph.proofs.parts.Parts.move_first.Goals as goal
 
 pub join-requires-clause-there : goal.join-requires-clause-there

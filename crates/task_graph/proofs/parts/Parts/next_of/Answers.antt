@@ -1,4 +1,4 @@
-use Rattle.std.proofs.Common.{◌≡◌, ◌≤◌, ◌<◌, Some, None, ap, sym, subst, ◌∙◌, refl, arith}
+use Rattle.std.proofs.Common.{sym, arith}
 use Rattle.task_graph.proofs.Readings.{after_found, last_greatest, no_last, ceiling_first}
 use Rattle.task_graph.proofs.parts.Parts.next_of.Goals as goal
 

@@ -1,4 +1,4 @@
-use Rattle.std.proofs.Common.{◌≡◌, ◌-◌, None, Some, sym, subst, ap, ◌∙◌, arith, is_some, true, false}
+use Rattle.std.proofs.Common.{◌-◌, None, sym, subst, ap, ◌∙◌, arith}
 use Rattle.std.proofs.lemmas.Grind.{common_steps}
 use Rattle.task_states.specs.Steps.{removed}
 use Rattle.task_graph.specs.Inside.{shown_entry}

@@ -1,5 +1,4 @@
-use Rattle.std.proofs.Common.{◌≡◌, ℕ, Some, ap, subst, ◌∙◌, sym}
-use Rattle.task_graph.specs.declared.entries.Entry.{Entry}
+use Rattle.std.proofs.Common.{◌≡◌, ap, subst, ◌∙◌, sym}
 use Rattle.task_graph.specs.Inside.{entries_at, shown_entry}
 use Rattle.task_graph.specs.Graphs.{graph_of, with_revised}
 use Rattle.task_graph.proofs.Runs.{caller_low}

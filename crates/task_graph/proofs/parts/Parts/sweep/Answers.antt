@@ -1,6 +1,6 @@
-use Rattle.std.proofs.Common.{◌≡◌, ◌≤◌, Some, None, refl, subst, arith, ap, ◌∙◌}
+use Rattle.std.proofs.Common.{refl, subst, arith}
 use Rattle.task_graph.specs.Sweeping.{IsSwept}
-use Rattle.task_graph.proofs.Sweeps.{swept_none, next_there, swept_more}
+use Rattle.task_graph.proofs.Sweeps.{swept_none, swept_more}
 use Rattle.task_graph.proofs.parts.Parts.sweep.Goals as goal
 
 pub loop-next-init : goal.loop-next-init

@@ -1,4 +1,3 @@
-use Rattle.std.proofs.Common.{◌≡◌, length, sym, ◌∙◌}
 use Rattle.std.specs.BinaryHeap.{heap_items}
 use Rattle.task_graph.proofs.Queues.{rest_of, empty_from_len}
 use Rattle.task_graph.proofs.queue.Queue.drop_least.Goals as goal

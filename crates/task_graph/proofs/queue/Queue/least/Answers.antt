@@ -1,4 +1,4 @@
-use Rattle.std.proofs.Common.{◌<◌, length, arith}
+use Rattle.std.proofs.Common.{◌<◌, length}
 use Rattle.std.specs.BinaryHeap.{heap_items}
 use Rattle.task_graph.proofs.Queues.{bound_of, first_queued}
 use Rattle.task_graph.proofs.queue.Queue.least.Goals as goal

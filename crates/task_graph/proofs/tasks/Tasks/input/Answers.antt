@@ -1,12 +1,8 @@
-use Rattle.std.proofs.Common.{◌≡◌, Some, None, IsSome, ap, sym, subst, ◌∙◌, Option}
-use Rattle.std.specs.Prelude.{slice_get}
+use Rattle.std.proofs.Common.{◌≡◌, IsSome, sym, subst, ◌∙◌}
 use Rattle.std.specs.Option.{option_map}
-use Rattle.cht_ids.specs.declared.refs.Ref.{Ref}
-use Rattle.task_states.specs.States.{Input, task_at, input_at}
-use Rattle.task_graph.specs.Inside.{inputs_of}
+use Rattle.task_states.specs.States.{task_at, input_at}
 use Rattle.task_graph.specs.Contents.{Contents, input_of}
 use Rattle.task_graph.proofs.Marking.{entry_of}
-use Rattle.task_graph.proofs.Runs.{task_there}
 use Rattle.task_graph.proofs.Readings.{input_there}
 use Rattle.task_graph.proofs.tasks.Tasks.input.Goals as goal
 
