@@ -1,13 +1,13 @@
 -- The owners of a group and the thieves that come back to them.
-use Rattle.std.proofs.Common.{◌≡◌, ◌≢◌, ℕ, zero, suc, ◌+◌, ◌-◌, ◌^◌, ◌<◌, ◌≤◌, min, List, [], ◌∷◌, ◌++◌, map, length, set, take, drop, replicate, slice_get, get_or, Option, None, Some, MatchOption, sym, refl, ap, ◌∙◌, subst, append_assoc, append-nil, length-append, arith}
-use Rattle.std.proofs.lemmas.Option.{slice_get-get_or, slice_get_within}
+use Rattle.std.proofs.Common.{◌≡◌, ℕ, zero, suc, ◌+◌, ◌-◌, ◌^◌, ◌<◌, ◌≤◌, min, List, [], ◌∷◌, ◌++◌, map, length, set, take, drop, replicate, slice_get, get_or, Option, None, Some, MatchOption, sym, refl, ap, ◌∙◌, subst, append_assoc, append-nil, length-append, arith}
+use Rattle.std.proofs.lemmas.Option.{slice_get_within}
 use Rattle.steal_deque.specs.declared.rule.View.{View}
 use Rattle.steal_deque.specs.declared.own.Own.{Own}
 use Rattle.steal_deque.specs.declared.victim.Victim.{Victim}
 use Rattle.steal_deque.specs.declared.thief.Thief.{Thief}
 use Rattle.std.specs.Option.{unwrap_or}
 use Rattle.steal_deque.specs.History.{spent, joined_with, stealing, one_more, newcomer, HeldFew, Settles}
-use Rattle.steal_deque.specs.Ends.{own_view, own_deque, victim_view, victim_deque, Deque, SameVictim}
+use Rattle.steal_deque.specs.Ends.{own_view, own_deque, victim_view, victim_deque, SameVictim}
 use Rattle.steal_deque.specs.Groups.{ports, views_of, deques_of, Reaches, AreThieves, AreOwners, ArePorts, AreAll, returned_all, returned_by, total, AllSettle, owner_with, AreNew}
 
 no_first : {Y : Type 0} (y : Y) (ys : List Y) → y ∷ ys ≡ [] → ⊥

@@ -1,4 +1,4 @@
-use Rattle.std.proofs.Common.{rules, ◌≡◌, ◌++◌, ◌∷◌, [], subst, ◌+◌, sym, length}
+use Rattle.std.proofs.Common.{rules, ◌≡◌, ◌++◌, ◌∷◌, [], subst}
 use Rattle.steal_deque.proofs.Groups
 use Rattle.steal_deque.proofs.opening.hire_all.Goals as goal
 

@@ -1,6 +1,4 @@
-use Rattle.std.proofs.Common.{rules, ◌≡◌, ◌++◌, ◌∷◌, [], subst, map, replicate, ◌+◌, sym}
-use Rattle.steal_deque.specs.Ends.{own_view}
-use Rattle.steal_deque.specs.Groups.{owner_with}
+use Rattle.std.proofs.Common.{rules, ◌≡◌, ◌++◌, ◌∷◌, []}
 use Rattle.steal_deque.proofs.Groups
 use Rattle.steal_deque.proofs.opening.open_all.Goals as goal
 

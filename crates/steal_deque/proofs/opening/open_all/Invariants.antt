@@ -1,4 +1,4 @@
-use Rattle.std.proofs.Common.{◌≡◌, map, replicate, length}
+use Rattle.std.proofs.Common.{◌≡◌, map, replicate}
 use Rattle.steal_deque.specs.Ends.{own_view}
 use Rattle.steal_deque.specs.Groups.{owner_with}
 use Rattle.steal_deque.proofs.opening.open_all.Given as goal

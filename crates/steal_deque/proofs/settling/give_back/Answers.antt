@@ -1,5 +1,5 @@
-use Rattle.std.proofs.Common.{rules, arith, ◌≡◌, ◌++◌, ◌∷◌, [], length, sym, ◌∙◌, ap, ℕ, subst, get_or}
-use Rattle.steal_deque.specs.Ends.{own_deque, victim_deque}
+use Rattle.std.proofs.Common.{rules, arith, ◌≡◌, ◌++◌, ◌∷◌, [], length, sym, ◌∙◌, ap, ℕ, get_or}
+use Rattle.steal_deque.specs.Ends.{own_deque}
 use Rattle.steal_deque.proofs.Groups
 use Rattle.steal_deque.proofs.settling.give_back.Goals as goal
 
