@@ -114,7 +114,7 @@ len_entries (e ∷ entries) =
     let one = map.len-insert nat_cmp_total (map.from_entries {R = nat_cmp} entries) e.0 e.1 in
     let rest = len_entries entries in
     elim (map.contains_key (map.from_entries {R = nat_cmp} entries) e.0) as (λ b. map.len (map.insert (map.from_entries {R = nat_cmp} entries) e.0 e.1) ≡ cond b (map.len (map.from_entries {R = nat_cmp} entries)) (map.len (map.from_entries {R = nat_cmp} entries) + 1)
-        → map.len (map.insert (map.from_entries {R = nat_cmp} entries) e.0 e.1) ≤ suc (length entries)) [ true ↦ λ is. omega arith | false ↦ λ is. omega arith ] one
+    → map.len (map.insert (map.from_entries {R = nat_cmp} entries) e.0 e.1) ≤ suc (length entries)) [ true ↦ λ is. omega arith | false ↦ λ is. omega arith ] one
 
 -- no more values than there were
 pub len-kept : {X : Type 0} (test : X → Bool) (m : map.FinMap nat_cmp X) → map.len (kept test m) ≤ map.len m
