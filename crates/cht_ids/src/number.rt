@@ -62,11 +62,11 @@ pub(crate) fn read_plain(digits: &[u8]) -> Option<u128>
 
 /// The number below 2^128 that digits spell, without a sign: one ASCII digit or more, with zeros before others allowed. `None`
 /// exactly where the word is no such numeral.
-// Numbers of up to 19 digits take the fast way of 64 bits.
 #[tactic(auto, using(crate::proofs::NumberRules::bounds))]
 pub fn read_unsigned(digits: &[u8]) -> Option<u128>
     ensures { result ≡ unsigned_below (2 ^ 128) digits.now }
 {
+    // Numbers of up to 19 digits take the fast way of 64 bits.
     if digits.len() < 20 {
         Some(u128::from(read_digits(digits)?))
     } else {

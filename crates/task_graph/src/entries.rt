@@ -66,7 +66,7 @@ impl<K: Copy> Entries<K> {
         *self.tasks.get(&task).unwrap()
     }
 
-    // Writes the entry of a task.
+    /// Writes the entry of a task.
     pub fn put(&mut self, task: u128, entry: Entry<K>)
         requires { IsSome (entries_at self.old task) }
         ensures at { (q : ℕ) → entries_at self.new q ≡ put_in task entry (entries_at self.old) q }
@@ -105,7 +105,7 @@ impl<K: Copy> Entries<K> {
         self.awaited(spot).unwrap()
     }
 
-    // Writes the input at a place.
+    /// Writes the input at a place.
     pub fn set_place(&mut self, spot: Spot, place: Place)
         requires { IsSome (place_at (entries_at self.old) spot) }
         ensures places { (p : AnySpot) → place_at (entries_at self.new) p ≡ cond (is_spot p spot) (Some place) (place_at (entries_at self.old) p) }
@@ -120,7 +120,7 @@ impl<K: Copy> Entries<K> {
         self.put(spot.task, entry);
     }
 
-    // Writes the next one of an awaiting input.
+    /// Writes the next one of an awaiting input.
     pub fn set_next(&mut self, spot: Spot, next: Option<Spot>)
         requires { IsSome (link_at (entries_at self.old) spot) }
         ensures links { (p : AnySpot) → link_at (entries_at self.new) p ≡ option_map (with_next p spot next) (link_at (entries_at self.old) p) }
@@ -134,7 +134,7 @@ impl<K: Copy> Entries<K> {
         self.set_place(spot, Place::Awaits(Link { next, ..link }));
     }
 
-    // Writes the first and the last of a task's list.
+    /// Writes the first and the last of a task's list.
     pub fn set_ends(&mut self, task: u128, first: Option<Spot>, last: Option<Spot>)
         requires { IsSome (entries_at self.old task) }
         ensures links { (p : AnySpot) → link_at (entries_at self.new) p ≡ link_at (entries_at self.old) p }
