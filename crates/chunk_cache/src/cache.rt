@@ -1,4 +1,4 @@
-ghost use Rattle.std.specs.Prelude.{◌≡◌, [], IfOk, OnOk, OnErr, option_copied};
+ghost use Rattle.std.specs.Prelude.{◌≡◌, [], IfOk, OnOk, OnErr, IsOk, option_copied};
 ghost use Rattle.chunk_cache.specs.Held.{content_of, after_put, after_forget};
 
 use cht_ids::Memory;
@@ -44,6 +44,9 @@ impl<C: Drop> Cache<C> {
     pub fn put(&mut self, body: u128, content: Shared<C>) -> Result<(), Memory>
         ensures ok { OnOk result (self.new ≡ after_put body content self.old) }
         ensures unchanged { OnErr result (self.new ≡ self.old) }
+
+        // Keeping nothing takes no memory.
+        ensures keeps_nothing { self.old.capacity ≡ 0 → IsOk result }
     {
         if self.capacity == 0 {
             return Ok(());
