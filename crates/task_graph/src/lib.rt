@@ -6,9 +6,11 @@ mod adding;
 mod callers;
 mod entries;
 mod held;
+mod outputs;
 mod parts;
 mod queue;
 mod reading;
+mod running;
 mod tasks;
 mod weave;
 

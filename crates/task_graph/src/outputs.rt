@@ -1,0 +1,173 @@
+// Who awaits a task, and what becomes of it when the task's output comes or is handed on.
+ghost use Rattle.std.specs.Prelude.{◌≡◌, ◌<◌, ℕ, Some, None, IsSome, ◌⊎◌, set, Option};
+ghost use Rattle.task_graph.specs.Inside.{entries_at, IsSameSize, place_at};
+ghost use Rattle.task_states.specs.States.{Known as KnownInput, Awaits as AwaitsTask, task_at};
+ghost use Rattle.task_states.specs.Steps.{with_task, delivered, inputs_redirected, forwarded};
+ghost use Rattle.task_graph.specs.Weave.{head_at, link_at, IsFirst, IsUntied, IsTied, IsAtHome, IsUnused, IsUnasked, IsFirstIfInput, Head as AnyHead};
+ghost use Rattle.task_graph.specs.Contents.{AreOfOneCaller, IsAskedOnce};
+ghost use Rattle.task_graph.specs.Moving.{IsMovable, IsMoved};
+ghost use Rattle.task_states.specs.declared.states.Awaiter.{Awaiter as AnyAwaiter};
+ghost use Rattle.task_graph.specs.declared.entries.Spot.{Spot as AnySpot};
+ghost use Rattle.task_states.specs.Awaiters.{IsNotAwaited, IsAwaiterFound, IsLeastAwaiter, task_of, IsRunnable};
+ghost use Rattle.task_graph.specs.Graphs.{graph_of, IsWhole};
+
+use crate::entries::{Link, Spot};
+use crate::parts::Parts;
+use cht_ids::Ref;
+use task_states::Awaiter;
+
+impl<K: Copy> Parts<K> {
+    /// The awaiter of a task with the least number; `None` where nobody awaits it.
+    pub fn awaiter(&self, task: u128) -> Option<Awaiter>
+        requires whole { IsWhole self.now }
+        requires there { IsSome (task_at (graph_of self.now) task) }
+        ensures least { IsAwaiterFound (graph_of self.now) task result }
+        ensures first { IsFirstIfInput (head_at (entries_at self.now.entries)) (link_at (entries_at self.now.entries)) result }
+    {
+        let entry = self.entries.get(task);
+        match entry.first {
+            None => match entry.asked {
+                None => None,
+                Some(number) => Some(Awaiter::Asked {
+                    caller: entry.caller,
+                    number,
+                }),
+            },
+            Some(spot) => {
+                let link = self.entries.link(spot);
+                let input = Awaiter::Input {
+                    task: spot.task,
+                    place: spot.place,
+                    number: link.number,
+                };
+                match entry.asked {
+                    None => Some(input),
+                    Some(number) => {
+                        if number < link.number {
+                            Some(Awaiter::Asked {
+                                caller: entry.caller,
+                                number,
+                            })
+                        } else {
+                            Some(input)
+                        }
+                    }
+                }
+            }
+        }
+    }
+
+    // The first input that awaits a task gets a reference. Answers what it awaited.
+    fn settle(&mut self, spot: Spot, r: Ref) -> Link
+        requires whole { IsWhole self.old }
+        requires first { IsFirst (head_at (entries_at self.old.entries)) (link_at (entries_at self.old.entries)) spot }
+        ensures whole { IsWhole self.new }
+        ensures link { link_at (entries_at self.old.entries) spot ≡ Some result }
+        ensures untied { IsUntied (head_at (entries_at self.old.entries)) (head_at (entries_at self.new.entries)) (link_at (entries_at self.old.entries)) (link_at (entries_at self.new.entries)) spot result }
+        ensures graph { graph_of self.new ≡ with_task (graph_of self.old) spot.task (λ u. record u { inputs = set u.inputs spot.place (KnownInput r) }) }
+        ensures there { IsSome (place_at (entries_at self.new.entries) spot) }
+        ensures size { IsSameSize self.old.entries self.new.entries }
+    {
+        self.entries.settle(spot, r)
+    }
+
+    /// An input that does not await comes to await a task of the same caller, under a number that no awaiter has.
+    pub fn join(&mut self, spot: Spot, task: u128, number: u128)
+        requires whole { IsWhole self.old }
+        requires there { IsSome (place_at (entries_at self.old.entries) spot) }
+        requires free { link_at (entries_at self.old.entries) spot ≡ None }
+        requires home { IsAtHome (head_at (entries_at self.old.entries)) spot.task task }
+        requires unused { IsUnused (link_at (entries_at self.old.entries)) number }
+        requires unasked { IsUnasked (head_at (entries_at self.old.entries)) number }
+        ensures whole { IsWhole self.new }
+        ensures tied { (before : Option AnySpot) × (next : Option AnySpot)
+            × IsTied (head_at (entries_at self.old.entries)) (head_at (entries_at self.new.entries)) (link_at (entries_at self.old.entries)) (link_at (entries_at self.new.entries)) spot task number before next }
+        ensures graph { graph_of self.new ≡ with_task (graph_of self.old) spot.task (λ u. record u { inputs = set u.inputs spot.place (AwaitsTask task number) }) }
+        ensures size { IsSameSize self.old.entries self.new.entries }
+    {
+        self.entries.join(spot, task, number);
+    }
+
+    /// The awaiter of a task with the least number gets a reference. Answers the task whose input it is, if it is one.
+    pub fn deliver(&mut self, task: u128, r: Ref) -> Option<u128>
+        requires whole { IsWhole self.old }
+        requires there { IsSome (task_at (graph_of self.old) task) }
+        requires awaited { IsNotAwaited (graph_of self.old) task → ⊥ }
+        ensures whole { IsWhole self.new }
+        ensures graph { (awaiter : AnyAwaiter) → IsLeastAwaiter (graph_of self.old) task awaiter → graph_of self.new ≡ delivered (graph_of self.old) task awaiter r }
+        ensures input { (awaiter : AnyAwaiter) → IsLeastAwaiter (graph_of self.old) task awaiter → result ≡ task_of awaiter }
+        ensures runs { (q : ℕ) → IsRunnable (graph_of self.new) q → (result ≡ Some q) ⊎ IsRunnable (graph_of self.old) q }
+        ensures size { IsSameSize self.old.entries self.new.entries }
+    {
+        match self.awaiter(task) {
+            None => None,
+            Some(
+                Awaiter::Input {
+                    task: of,
+                    place,
+                    ..
+                },
+            ) => {
+                self.settle(Spot { task: of, place }, r);
+                Some(of)
+            }
+            Some(Awaiter::Asked { .. }) => {
+                self.unask(task);
+                None
+            }
+        }
+    }
+
+    // The first input that awaits a task, if one does.
+    fn first(&self, task: u128) -> Option<Spot>
+        requires { IsSome (entries_at self.now.entries task) }
+        ensures { (head : AnyHead) → head_at (entries_at self.now.entries) task ≡ Some head → result ≡ head.first }
+    {
+        let entry = self.entries.get(task);
+        entry.first
+    }
+
+    // The first input that awaits one task awaits another of the same caller.
+    fn move_first(&mut self, spot: Spot, to: u128)
+        requires whole { IsWhole self.old }
+        requires movable { IsMovable self.old spot to }
+        ensures whole { IsWhole self.new }
+        ensures moved { IsMoved self.old self.new spot to }
+        ensures size { IsSameSize self.old.entries self.new.entries }
+    {
+        let link = self.settle(spot, Ref::Null);
+        self.join(spot, to, link.number);
+    }
+
+    // All inputs that await one task await another.
+    fn move_all(&mut self, task: u128, to: u128)
+        requires whole { IsWhole self.old }
+        requires callers { AreOfOneCaller (graph_of self.old) task to }
+        requires apart { task ≡ to → ⊥ }
+        ensures whole { IsWhole self.new }
+        ensures graph { graph_of self.new ≡ inputs_redirected (graph_of self.old) task to }
+        ensures size { IsSameSize self.old.entries self.new.entries }
+    {
+        while let Some(spot) = self.first(task) {
+            self.move_first(spot, to);
+        }
+    }
+
+    /// All that awaits one task awaits another of the same caller.
+    pub fn forward(&mut self, task: u128, to: u128)
+        requires whole { IsWhole self.old }
+        requires callers { AreOfOneCaller (graph_of self.old) task to }
+        requires apart { task ≡ to → ⊥ }
+        requires asked { IsAskedOnce (graph_of self.old) task to }
+        ensures whole { IsWhole self.new }
+        ensures graph { graph_of self.new ≡ forwarded (graph_of self.old) task to }
+        ensures size { IsSameSize self.old.entries self.new.entries }
+    {
+        let entry = self.entries.get(task);
+        self.move_all(task, to);
+        if let Some(number) = entry.asked {
+            self.ask(to, number);
+            self.unask(task);
+        }
+    }
+}

@@ -1,0 +1,158 @@
+// Which tasks are run and asked for, and which can be run.
+ghost use Rattle.std.specs.Prelude.{◌≡◌, ◌<◌, ◌+◌, ℕ, Some, None, IsSome, IsTrue, ◌↔◌, ◌^◌, length, Option};
+ghost use Rattle.std.specs.Option.{option_map};
+ghost use Rattle.std.specs.HashMap.{hash_map_len};
+ghost use Rattle.task_graph.specs.Inside.{entries_at, put_in, IsSameSize, shown_entry};
+ghost use Rattle.task_graph.specs.Callers.{caller_at, with_running_at};
+ghost use Rattle.task_graph.specs.Weave.{link_at, IsUnused};
+ghost use Rattle.task_states.specs.declared.states.TaskStatus.TheVariants.{Ready, Running};
+ghost use Rattle.task_states.specs.States.{task_at, status};
+ghost use Rattle.task_states.specs.Steps.{started, given_back, with_asked, without_asked, with_stopped};
+ghost use Rattle.task_graph.specs.declared.entries.Entry.{Entry as AnyEntry};
+ghost use Rattle.task_graph.specs.Graphs.{graph_of, IsWhole, IsRevised, with_revised};
+ghost use Rattle.task_states.specs.Awaiters.{IsRunnable};
+
+use crate::callers::Caller;
+use crate::parts::Parts;
+use task_states::TaskStatus;
+
+impl<K: Copy> Parts<K> {
+    /// How far a task is.
+    pub fn status(&self, task: u128) -> TaskStatus
+        requires { IsWhole self.now }
+        ensures { result ≡ status (graph_of self.now) task }
+    {
+        match self.entries.find(task) {
+            None => TaskStatus::Unknown,
+            Some(entry) => entry.status(),
+        }
+    }
+
+    /// Whether a task is Ready and its caller is not stopped.
+    pub fn is_runnable(&self, task: u128) -> bool
+        requires { IsWhole self.now }
+        ensures { IsTrue result ↔ IsRunnable (graph_of self.now) task }
+    {
+        match self.entries.find(task) {
+            None => false,
+            Some(entry) => {
+                let row = self.callers.get(entry.caller);
+                match entry.status() {
+                    TaskStatus::Unknown => false,
+                    TaskStatus::Waiting => false,
+                    TaskStatus::Ready => !row.stopped,
+                    TaskStatus::Running => false,
+                }
+            }
+        }
+    }
+
+    // Counts one Running task more, or one less, for a caller.
+    fn count(&mut self, caller: u32, running: u32)
+        requires { caller < 64 }
+        ensures entries { self.new.entries ≡ self.old.entries }
+        ensures callers { (q : ℕ) → caller_at self.new.callers q ≡ option_map (with_running_at q caller running) (caller_at self.old.callers q) }
+        ensures len { length self.new.callers.rows ≡ length self.old.callers.rows }
+    {
+        let row = self.callers.get(caller);
+        self.callers.set(caller, Caller { running, ..row });
+    }
+
+    // Writes the worker and the asked output of a task, and how many tasks of its caller are Running then.
+    pub(crate) fn revise(
+        &mut self,
+        task: u128,
+        runner: Option<u32>,
+        asked: Option<u128>,
+        running: u32,
+    )
+        requires whole { IsWhole self.old }
+        requires there { IsSome (entries_at self.old.entries task) }
+        requires revised { (entry : AnyEntry K) → entries_at self.old.entries task ≡ Some entry → IsRevised self.old task entry runner asked running }
+        ensures whole { IsWhole self.new }
+        ensures at { (entry : AnyEntry K) → entries_at self.old.entries task ≡ Some entry
+            → (q : ℕ) → entries_at self.new.entries q ≡ put_in task (record entry { runner = runner; asked = asked }) (entries_at self.old.entries) q }
+        ensures graph { (entry : AnyEntry K) → entries_at self.old.entries task ≡ Some entry → graph_of self.new ≡ with_revised (graph_of self.old) task (shown_entry entry) runner asked }
+        ensures size { IsSameSize self.old.entries self.new.entries }
+    {
+        let mut entry = self.entries.get(task);
+        let caller = entry.caller;
+        entry.runner = runner;
+        entry.asked = asked;
+        self.entries.put(task, entry);
+        self.count(caller, running);
+    }
+
+    /// A worker runs a Ready task.
+    pub fn start(&mut self, task: u128, worker: u32)
+        requires whole { IsWhole self.old }
+        requires ready { status (graph_of self.old) task ≡ Ready }
+        requires few { hash_map_len self.old.entries.tasks < 2 ^ 32 }
+        ensures whole { IsWhole self.new }
+        ensures graph { graph_of self.new ≡ started (graph_of self.old) task worker }
+        ensures size { IsSameSize self.old.entries self.new.entries }
+    {
+        let _few = self.entries.tasks.len();
+        let entry = self.entries.get(task);
+        let row = self.callers.get(entry.caller);
+        self.revise(task, Some(worker), entry.asked, row.running + 1);
+    }
+
+    /// No worker runs a Running task any more.
+    pub fn give_back(&mut self, task: u128)
+        requires whole { IsWhole self.old }
+        requires running { status (graph_of self.old) task ≡ Running }
+        ensures whole { IsWhole self.new }
+        ensures graph { graph_of self.new ≡ given_back (graph_of self.old) task }
+        ensures size { IsSameSize self.old.entries self.new.entries }
+    {
+        let entry = self.entries.get(task);
+        let row = self.callers.get(entry.caller);
+        self.revise(task, None, entry.asked, row.running - 1);
+    }
+
+    /// The caller of a task awaits it.
+    pub fn ask(&mut self, task: u128, number: u128)
+        requires whole { IsWhole self.old }
+        requires there { IsSome (task_at (graph_of self.old) task) }
+        requires free { IsUnused (link_at (entries_at self.old.entries)) number }
+        ensures whole { IsWhole self.new }
+        ensures graph { graph_of self.new ≡ with_asked (graph_of self.old) task number }
+        ensures size { IsSameSize self.old.entries self.new.entries }
+    {
+        let entry = self.entries.get(task);
+        let row = self.callers.get(entry.caller);
+        self.revise(task, entry.runner, Some(number), row.running);
+    }
+
+    /// The caller of a task awaits it no more.
+    pub fn unask(&mut self, task: u128)
+        requires whole { IsWhole self.old }
+        requires there { IsSome (task_at (graph_of self.old) task) }
+        ensures whole { IsWhole self.new }
+        ensures graph { graph_of self.new ≡ without_asked (graph_of self.old) task }
+        ensures size { IsSameSize self.old.entries self.new.entries }
+    {
+        let entry = self.entries.get(task);
+        let row = self.callers.get(entry.caller);
+        self.revise(task, entry.runner, None, row.running);
+    }
+
+    /// A caller is stopped.
+    pub fn stop(&mut self, caller: u32)
+        requires whole { IsWhole self.old }
+        requires caller { caller < 64 }
+        ensures whole { IsWhole self.new }
+        ensures graph { graph_of self.new ≡ with_stopped (graph_of self.old) caller }
+        ensures size { IsSameSize self.old.entries self.new.entries }
+    {
+        let row = self.callers.get(caller);
+        self.callers.set(
+            caller,
+            Caller {
+                stopped: true,
+                ..row
+            },
+        );
+    }
+}
