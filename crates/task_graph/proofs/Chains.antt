@@ -2,14 +2,12 @@
 use Rattle.std.proofs.Common.{◌≡◌, ℕ, ◌<◌, Option, Some, None, sym, ap, subst, ◌∙◌, ◌⊎◌, inl, inr, arith}
 use Rattle.std.specs.Option.{unwrap_or}
 use Rattle.task_states.proofs.Maps.{same_or_not as cases_eq}
+use Rattle.task_states.proofs.Options.{not_none}
 use Rattle.task_graph.specs.Weave.{Above, Leads}
 
 pub above_more : (bound : Option ℕ) (n k : ℕ) → Above bound n → n < k → Above bound k
 above_more None n k above more = tt
 above_more (Some b) n k above more = omega arith
-
-pub not_none : {X : Type 0} (o : Option X) (x : X) → o ≡ None → o ≡ Some x → ⊥
-not_none {X} o x a b = let clash : None ≡ Some x = sym a ∙ b in cc
 
 abbrev pub row_with : ℕ → ℕ → Option (ℕ × ℕ)
 row_with g k = Some (g, k)

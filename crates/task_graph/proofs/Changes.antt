@@ -7,11 +7,11 @@ use Rattle.cht_ids.specs.declared.refs.Ref.{Ref}
 use Rattle.task_states.specs.States.{Unfinished}
 use Rattle.task_states.specs.Maps.{put_at}
 use Rattle.task_states.proofs.Maps.{same_or_not, test_same, test_apart, same_maps, get_inserted}
+use Rattle.task_states.proofs.Options.{map_behind, map_id}
 use Rattle.task_graph.specs.declared.entries.Link.{Link}
 use Rattle.task_graph.specs.declared.entries.Spot.{Spot}
 use Rattle.task_graph.specs.Weave.{Head, IsWoven}
 use Rattle.task_graph.proofs.Weaving.{left-woven}
-use Rattle.task_graph.proofs.Tying.{map_behind}
 
 -- heads that keep their callers and their lists
 pub reheaded-woven : (heads new : ℕ → Option Head) (links new_links : Spot → Option Link) (change : ℕ → Head → Head) → IsWoven heads links
@@ -39,39 +39,3 @@ reheaded-woven heads new links new_links change woven same made keeps idle apart
           let b = map_behind (change q) (heads q) h (sym (made q) ∙ there) in
           apart p l q b.0 n (sym (same p) ∙ is) b.1 (ap (λ (x : Head). x.asked) b.2 ∙ asked) same_number;
     })
-
-map_same : {X Y : Type 0} (f g : X → Y) → ((x : X) → f x ≡ g x) → (o : Option X) → option_map f o ≡ option_map g o
-map_same f g same None = refl
-map_same f g same (Some x) = ap Some (same x)
-
-pub map_id : {X : Type 0} (f : X → X) → ((x : X) → f x ≡ x) → (o : Option X) → option_map f o ≡ o
-map_id f same None = refl
-map_id f same (Some x) = ap Some (same x)
-
--- one task changed, as contracts see it
-module _ {K : Type 0} where
-  pub get_changed : (tasks : map.FinMap nat_cmp (Unfinished Ref K)) (t q : ℕ) (change : Unfinished Ref K → Unfinished Ref K)
-      → map.get (put_at tasks t (option_map change (map.get tasks t))) q ≡ cond (nat_eq q t) (option_map change (map.get tasks t)) (map.get tasks q)
-  get_changed tasks t q change =
-      elim (map.get tasks t) as (λ o. map.get tasks t ≡ o → map.get (put_at tasks t (option_map change o)) q ≡ cond (nat_eq q t) (option_map change o) (map.get tasks q)) [
-        | None ↦ λ is. elim (same_or_not q t) [
-          | inl same ↦ ap (map.get tasks) same ∙ is ∙ sym (ap (λ b. cond b None (map.get tasks q)) (ap (λ r. nat_eq r t) same ∙ test_same t))
-          | inr apart ↦ sym (ap (λ b. cond b None (map.get tasks q)) (test_apart q t apart))
-        ]
-        | Some u ↦ λ is. get_inserted tasks t (change u) q
-      ] refl
-
-  -- the tasks, from what each became
-  pub tasks_changed : (tasks new : map.FinMap nat_cmp (Unfinished Ref K)) (t : ℕ) (change : Unfinished Ref K → Unfinished Ref K) (at : ℕ → Unfinished Ref K → Unfinished Ref K)
-      → ((q : ℕ) → map.get new q ≡ option_map (at q) (map.get tasks q)) → ((u : Unfinished Ref K) → at t u ≡ change u) → ((q : ℕ) (u : Unfinished Ref K) → (q ≡ t → ⊥) → at q u ≡ u)
-      → new ≡ put_at tasks t (option_map change (map.get tasks t))
-  tasks_changed tasks new t change at made here other =
-      same_maps new (put_at tasks t (option_map change (map.get tasks t))) (λ q. made q
-      ∙ elim (same_or_not q t) [
-        | inl same ↦
-            ap (λ o. option_map (at q) o) (ap (map.get tasks) same)
-            ∙ ap (λ r. option_map (at r) (map.get tasks t)) same
-            ∙ map_same (at t) change here (map.get tasks t)
-            ∙ sym (ap (λ b. cond b (option_map change (map.get tasks t)) (map.get tasks q)) (ap (λ r. nat_eq r t) same ∙ test_same t))
-        | inr apart ↦ map_id (at q) (λ u. other q u apart) (map.get tasks q) ∙ sym (ap (λ b. cond b (option_map change (map.get tasks t)) (map.get tasks q)) (test_apart q t apart))
-      ] ∙ sym (get_changed tasks t q change))

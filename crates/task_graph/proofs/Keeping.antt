@@ -14,10 +14,11 @@ use Rattle.task_states.proofs.Maps.{same_or_not, test_same, test_apart, same_map
 use Rattle.task_states.specs.States.{Input}
 use Rattle.task_states.specs.Steps.{with_task}
 use Rattle.task_states.specs.Maps.{put_at, kept}
+use Rattle.task_states.proofs.Options.{map_id, not_none, same_some, map_behind}
+use Rattle.task_states.proofs.Changes.{tasks_changed}
 use Rattle.std.specs.Prelude.{set}
 use Rattle.task_graph.specs.declared.callers.Callers.{Callers}
 use Rattle.task_graph.specs.Inside.{with_input}
-use Rattle.task_graph.proofs.Changes.{tasks_changed, map_id}
 use Rattle.task_graph.specs.declared.callers.Caller.{Caller}
 use Rattle.task_graph.specs.declared.entries.Entry.{Entry}
 use Rattle.task_graph.specs.declared.entries.Entries.{Entries}
@@ -29,9 +30,7 @@ use Rattle.task_graph.specs.Inside.{shown_entry, shown_at, entries_at, place_in,
 use Rattle.task_graph.specs.Callers.{caller_at, bounds_at, bounds_of, load_at, load_of, Load}
 use Rattle.task_graph.specs.Order.{IsOrdered}
 use Rattle.task_graph.specs.Graphs.{tasks_of, graph_of, stopped_from, IsWhole, IsIdle, IsBare}
-use Rattle.task_graph.proofs.Chains.{not_none}
-use Rattle.task_graph.proofs.Weaving.{same_some, left-woven}
-use Rattle.task_graph.proofs.Tying.{map_behind}
+use Rattle.task_graph.proofs.Weaving.{left-woven}
 use Rattle.task_graph.proofs.Counting.{count_changed, passes}
 use Rattle.task_graph.proofs.Views.{has-stopped, flag, has_inserted, has}
 use Rattle.task_graph.proofs.Revising.{same_stopped}

@@ -17,7 +17,6 @@ mod Readings
 mod Refilling
 mod Reordering
 mod Revising
-mod Runnables
 mod Runs
 mod Splicing
 mod Sweeps

@@ -19,6 +19,7 @@ use Rattle.task_graph.specs.Callers.{caller_at}
 use Rattle.task_graph.proofs.Counting.{count_changed, count_less, passes}
 use Rattle.task_graph.proofs.Views.{len-tasks_of}
 use Rattle.task_states.proofs.Maps.{test_same, test_apart, get_removed}
+use Rattle.task_states.proofs.Options.{not_none, same_some, none_or_some}
 use Rattle.task_graph.specs.declared.entries.Entry.{Entry}
 use Rattle.task_graph.specs.declared.entries.Link.{Link}
 use Rattle.task_graph.specs.declared.entries.Place.{Place}
@@ -28,8 +29,6 @@ use Rattle.task_graph.specs.declared.parts.Parts.{Parts}
 use Rattle.task_graph.specs.Inside.{shown_entry, shown_place, entries_at, place_in, place_at, inputs_of}
 use Rattle.task_graph.specs.Weave.{Head, link_at, link_of, head_of, head_at, IsUnused}
 use Rattle.task_graph.specs.Graphs.{graph_of, tasks_of, IsWhole, IsRevised, run_for}
-use Rattle.task_graph.proofs.Chains.{not_none}
-use Rattle.task_graph.proofs.Weaving.{same_some, none_or_some}
 use Rattle.task_graph.proofs.Writing.{awaits_behind}
 use Rattle.task_graph.proofs.Runs.{task_is, task_there, status_there, status_none}
 

@@ -9,6 +9,8 @@ use Rattle.task_states.specs.States.{Input, Known, Awaits, Unfinished, Graph, ta
 use Rattle.task_states.specs.Steps.{with_task, redirected, inputs_redirected, with_asked}
 use Rattle.task_states.specs.Maps.{each_changed}
 use Rattle.task_states.proofs.Maps.{same_or_not, test_same, test_apart, same_maps, get-each_changed}
+use Rattle.task_states.proofs.Options.{not_none, same_some, none_or_some, map_behind}
+use Rattle.task_states.proofs.Changes.{get_changed}
 use Rattle.task_graph.specs.declared.entries.Entry.{Entry}
 use Rattle.task_graph.specs.declared.entries.Link.{Link}
 use Rattle.task_graph.specs.declared.entries.Spot.{Spot}
@@ -17,10 +19,8 @@ use Rattle.task_graph.specs.Inside.{entries_at, shown_entry, place_at}
 use Rattle.task_graph.specs.Weave.{Head, Leads, row_of, head_at, head_of, link_at, IsFirst, IsUnused, rest_in, rest_from, rest_after, rest_first}
 use Rattle.task_graph.specs.Graphs.{graph_of, IsWhole}
 use Rattle.task_graph.specs.Moving.{IsInputMoved, IsTaskMoved, AreMoved, IsMovable, IsMoved}
-use Rattle.task_graph.proofs.Chains.{not_none, same_key}
-use Rattle.task_graph.proofs.Weaving.{same_some, row_is, link_is, none_or_some}
-use Rattle.task_graph.proofs.Tying.{map_behind}
-use Rattle.task_graph.proofs.Changes.{get_changed}
+use Rattle.task_graph.proofs.Chains.{same_key}
+use Rattle.task_graph.proofs.Weaving.{row_is, link_is}
 use Rattle.task_graph.proofs.Awaiting.{first_link, no_input}
 use Rattle.task_graph.proofs.Marking.{input_is}
 use Rattle.task_graph.proofs.Writing.{awaits_behind}

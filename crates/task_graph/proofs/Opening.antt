@@ -12,6 +12,7 @@ use Rattle.cht_ids.specs.declared.refs.Ref.{Ref}
 use Rattle.task_states.specs.States.{Unfinished, no_tasks, task_at, is_run_for}
 use Rattle.task_states.specs.Awaiters.{IsRunnable}
 use Rattle.task_states.proofs.Maps.{len-kept}
+use Rattle.task_states.proofs.Options.{not_none, same_some, map_behind}
 use Rattle.task_graph.specs.declared.callers.Caller.{Caller}
 use Rattle.task_graph.specs.declared.entries.Entry.{Entry}
 use Rattle.task_graph.specs.declared.entries.Spot.{Spot}
@@ -24,10 +25,7 @@ use Rattle.task_graph.specs.Order.{Bounds, row_at, IsTail}
 use Rattle.std.specs.Map.{lookup}
 use Rattle.task_graph.specs.Graphs.{tasks_of, graph_of, stopped_from, IsWhole, IsHeld}
 use Rattle.task_graph.specs.Queue.{is_queued, IsQueue}
-use Rattle.task_graph.proofs.Chains.{not_none}
-use Rattle.task_graph.proofs.Weaving.{same_some}
 use Rattle.task_graph.proofs.Orders.{station_of_row}
-use Rattle.task_graph.proofs.Tying.{map_behind}
 use Rattle.task_graph.proofs.Views.{has-stopped, flag}
 
 abbrev no_row : Caller

@@ -3,10 +3,11 @@ use Rattle.std.proofs.Common.{◌≡◌, ℕ, ◌<◌, Option, Some, None, refl,
 use Rattle.std.specs.Option.{option_map}
 use Rattle.std.proofs.lemmas.Bool.{cases_lt}
 use Rattle.task_states.proofs.Maps.{same_or_not}
+use Rattle.task_states.proofs.Options.{not_none}
 use Rattle.task_graph.specs.Inside.{Station}
 use Rattle.task_graph.specs.Weave.{Above, Leads}
 use Rattle.task_graph.specs.Order.{Bounds, row_at, IsReached, IsTail, IsOrdered, IsRoom, IsRestationed, IsRebound, IsSpliced}
-use Rattle.task_graph.proofs.Chains.{not_none, same_key, row_with, leads_from_new, leads_to_new, leads_still, leads_over, leads_past}
+use Rattle.task_graph.proofs.Chains.{same_key, row_with, leads_from_new, leads_to_new, leads_still, leads_over, leads_past}
 
 same_some : {X : Type 0} (x y : X) → Some x ≡ Some y → x ≡ y
 same_some x y is = cc

@@ -9,13 +9,12 @@ use Rattle.std.proofs.lemmas.Bool.Decides.{nat_tests}
 use Rattle.std.proofs.lemmas.Map.Entries.{place_from_lookup, lookup_from_place}
 use Rattle.task_states.specs.declared.states.TaskStatus.TheVariants.{Ready}
 use Rattle.task_states.specs.States.{status_of}
+use Rattle.task_states.proofs.Options.{not_none, same_some}
 use Rattle.task_graph.specs.declared.entries.Entry.{Entry}
 use Rattle.task_graph.specs.declared.queue.Queue.{Queue}
 use Rattle.task_graph.specs.Inside.{shown_entry}
 use Rattle.task_graph.specs.Queue.{is_queued, queue_len}
 use Rattle.task_graph.specs.Graphs.{IsRefilled}
-use Rattle.task_graph.proofs.Chains.{not_none}
-use Rattle.task_graph.proofs.Weaving.{same_some}
 
 get_past : {X : Type 0} (front : List X) (x : X) (rest : List X) → slice_get (front ++ x ∷ rest) (length front) ≡ Some x
 get_past [] x rest = refl

@@ -6,6 +6,7 @@ use Rattle.std.specs.FinSet as numbers
 use Rattle.std.specs.FinMap as map
 use Rattle.task_states.specs.States.{is_run_for, running, status_of, is_running}
 use Rattle.task_states.proofs.Maps.{same_or_not, test_same, test_apart, same_maps, get_inserted}
+use Rattle.task_states.proofs.Options.{same_some, map_behind}
 use Rattle.task_graph.specs.declared.callers.Caller.{Caller}
 use Rattle.task_graph.specs.declared.entries.Entry.{Entry}
 use Rattle.task_graph.specs.declared.entries.Spot.{Spot}
@@ -15,8 +16,6 @@ use Rattle.task_graph.specs.Inside.{put_in, shown_entry, shown_at, entries_at, p
 use Rattle.task_graph.specs.Callers.{caller_at, bounds_at, bounds_of, with_running_at}
 use Rattle.task_graph.specs.Order.{IsOrdered}
 use Rattle.task_graph.specs.Graphs.{tasks_of, graph_of, stopped_from, IsWhole, IsRevised, with_revised, run_for}
-use Rattle.task_graph.proofs.Weaving.{same_some}
-use Rattle.task_graph.proofs.Tying.{map_behind}
 use Rattle.task_graph.proofs.Changes.{reheaded-woven}
 use Rattle.task_graph.proofs.Counting.{count_changed, passes}
 use Rattle.task_graph.proofs.Runs.{task_is, task_there}

@@ -8,6 +8,7 @@ use Rattle.task_states.specs.declared.states.TaskStatus.{TaskStatus}
 use Rattle.task_states.specs.declared.states.TaskStatus.TheVariants.{Unknown, Ready}
 use Rattle.task_states.specs.States.{Unfinished, task_at, status, status_of, is_stopped}
 use Rattle.task_states.specs.Awaiters.{IsRunnable}
+use Rattle.task_states.proofs.Options.{not_none, same_some}
 use Rattle.task_graph.specs.declared.callers.Caller.{Caller}
 use Rattle.task_graph.specs.declared.entries.Entry.{Entry}
 use Rattle.task_graph.specs.declared.parts.Parts.{Parts}
@@ -15,8 +16,6 @@ use Rattle.task_graph.specs.Inside.{shown_entry, shown_at, entries_at, station_o
 use Rattle.task_graph.specs.Callers.{caller_at, bounds_of}
 use Rattle.task_graph.specs.Order.{Bounds}
 use Rattle.task_graph.specs.Graphs.{graph_of, IsWhole}
-use Rattle.task_graph.proofs.Chains.{not_none}
-use Rattle.task_graph.proofs.Weaving.{same_some}
 use Rattle.task_graph.proofs.Views.{get-tasks_of, has-stopped, flag}
 
 bound : (own : Bounds) (o : Option Caller) → option_map bounds_of o ≡ Some own → (row : Caller) × (o ≡ Some row)
@@ -74,6 +73,12 @@ module _ {K : Type 0} (parts : Parts K) where
   runnable_going q entry row is at runs =
       let one = same_some runs.unfinished (shown_entry entry) (sym runs.there ∙ task_there q entry is) in
       sym (stopped_is entry.caller row at) ∙ ap (λ (u : Unfinished Ref K). is_stopped (graph_of parts) u.caller) (sym one) ∙ runs.not_stopped
+
+  -- the entry of a task that can be run
+  pub entry_runs : (q : ℕ) → IsRunnable (graph_of parts) q → (e : Entry K) × (entries_at parts.entries q ≡ Some e) × (status_of (shown_entry e) ≡ Ready)
+  entry_runs q runs =
+      let e = map_behind shown_entry (entries_at parts.entries q) runs.unfinished (sym (task_is q) ∙ runs.there) in
+      (e.0, e.1, ap status_of e.2 ∙ ready_of (graph_of parts) q runs)
 
   -- the caller of a task is below 64
   pub caller_low : IsWhole parts → (q : ℕ) (entry : Entry K) → entries_at parts.entries q ≡ Some entry → entry.caller < 64

@@ -3,10 +3,11 @@ use Rattle.std.proofs.Common.{◌≡◌, ℕ, zero, suc, ◌<◌, true, false, c
 use Rattle.std.specs.Prelude.{slice_get, replicate}
 use Rattle.std.specs.Option.{option_map}
 use Rattle.task_states.proofs.Maps.{same_or_not, test_same, test_apart}
+use Rattle.task_states.proofs.Options.{not_none}
 use Rattle.task_graph.specs.Inside.{Station}
 use Rattle.task_graph.specs.Weave.{Leads}
 use Rattle.task_graph.specs.Order.{Bounds, row_at, IsReached, IsTail, IsOrdered, IsRoom, IsJustBelow, IsBehind, IsFloor, is_number, is_none, with_after_at, with_before_at, with_first_at, with_last_at, IsRestationed, IsRebound, IsSpliced}
-use Rattle.task_graph.proofs.Chains.{not_none, same_key, row_with}
+use Rattle.task_graph.proofs.Chains.{same_key, row_with}
 use Rattle.task_graph.proofs.Orders.{row_of_station, station_of_row}
 
 pub get_replicate : {X : Type 0} (n i : ℕ) (x : X) → i < n → slice_get (replicate n x) i ≡ Some x

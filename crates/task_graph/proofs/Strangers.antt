@@ -6,13 +6,13 @@ use Rattle.task_states.specs.declared.states.Awaiter.{Awaiter}
 use Rattle.task_states.specs.declared.states.Awaiter.TheVariants.{Input as AtInput, Asked}
 use Rattle.task_states.specs.States.{task_at, Unfinished}
 use Rattle.task_states.specs.Awaiters.{IsAwaiter, IsNotAwaited}
+use Rattle.task_states.proofs.Options.{not_none}
 use Rattle.task_graph.specs.declared.entries.Entry.{Entry}
 use Rattle.task_graph.specs.declared.entries.Spot.{Spot}
 use Rattle.task_graph.specs.declared.parts.Parts.{Parts}
 use Rattle.task_graph.specs.Inside.{entries_at}
 use Rattle.task_graph.specs.Weave.{head_at, head_of}
 use Rattle.task_graph.specs.Graphs.{graph_of, IsWhole}
-use Rattle.task_graph.proofs.Chains.{not_none}
 use Rattle.task_graph.proofs.Walking.{some_is}
 use Rattle.task_graph.proofs.Awaiting.{link_behind}
 use Rattle.task_graph.proofs.Runs.{task_none}

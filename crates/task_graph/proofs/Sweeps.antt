@@ -11,6 +11,7 @@ use Rattle.task_states.specs.States.{Unfinished, running, is_run_for, is_running
 use Rattle.task_states.specs.Steps.{abandoned}
 use Rattle.task_states.specs.Maps.{kept}
 use Rattle.task_states.proofs.Maps.{same_or_not, test_same, test_apart, same_maps, get-kept}
+use Rattle.task_states.proofs.Options.{not_none, same_some, none_or_some, map_behind}
 use Rattle.task_graph.specs.declared.callers.Caller.{Caller}
 use Rattle.task_graph.specs.declared.entries.Entry.{Entry}
 use Rattle.task_graph.specs.declared.entries.Link.{Link}
@@ -22,9 +23,8 @@ use Rattle.task_graph.specs.Weave.{Head, Leads, head_at, head_of, link_at, link_
 use Rattle.task_graph.specs.Order.{Bounds, row_at, IsReached, IsTail}
 use Rattle.task_graph.specs.Graphs.{tasks_of, graph_of, stopped_from, IsWhole}
 use Rattle.task_graph.specs.Sweeping.{IsBefore, IsSwept}
-use Rattle.task_graph.proofs.Chains.{not_none, row_with}
-use Rattle.task_graph.proofs.Weaving.{same_some, left-woven, leads_alike, none_or_some}
-use Rattle.task_graph.proofs.Tying.{map_behind}
+use Rattle.task_graph.proofs.Chains.{row_with}
+use Rattle.task_graph.proofs.Weaving.{left-woven, leads_alike}
 use Rattle.task_graph.proofs.Orders.{row_of_station, station_of_row}
 use Rattle.task_graph.proofs.Views.{has-stopped, flag, has}
 use Rattle.task_graph.proofs.Runs.{task_is, task_there}

@@ -3,12 +3,12 @@ use Rattle.std.proofs.Common.{◌≡◌, ℕ, true, false, cond, ◌&&◌, Optio
 use Rattle.std.specs.Option.{option_map}
 use Rattle.std.proofs.lemmas.Bool.Decides.{nat_tests}
 use Rattle.task_states.proofs.Maps.{same_or_not, test_same, test_apart}
+use Rattle.task_states.proofs.Options.{not_none, same_some, map_behind}
 use Rattle.task_graph.specs.declared.entries.Link.{Link}
 use Rattle.task_graph.specs.declared.entries.Spot.{Spot}
 use Rattle.task_graph.specs.Inside.{is_spot}
 use Rattle.task_graph.specs.Weave.{Head, is_at, with_next_at, with_ends, instead, last_behind, IsGap, IsJoined, IsRelinked, IsTied, IsUntied}
-use Rattle.task_graph.proofs.Chains.{not_none}
-use Rattle.task_graph.proofs.Weaving.{same_spot, same_some}
+use Rattle.task_graph.proofs.Weaving.{same_spot}
 
 pub spot_same : (a : Spot) → is_spot a a ≡ true
 spot_same a = ap (λ b. b && nat_eq a.place a.place) (test_same a.task) ∙ test_same a.place
@@ -29,10 +29,6 @@ at_or_not spot (Some other) =
       | inl same ↦ inl (ap Some (sym same), ap (is_spot spot) (sym same) ∙ spot_same spot)
       | inr apart ↦ inr (λ is. apart (sym (same_some other spot is)), spot_apart spot other apart)
     ]
-
-pub map_behind : {X Y : Type 0} (f : X → Y) (o : Option X) (y : Y) → option_map f o ≡ Some y → (x : X) × (o ≡ Some x) × (f x ≡ y)
-map_behind f None y is = absurd (not_none None y refl is)
-map_behind f (Some x) y is = (x, refl, same_some (f x) y is)
 
 module _ (heads new_heads : ℕ → Option Head) (links new_links : Spot → Option Link) (spot : Spot) (link : Link) (before : Option Spot) (own : Head)
     (free : links spot ≡ None) (gap : IsGap heads links link.task link.number before link.next) (own_is : heads link.task ≡ Some own)

@@ -1,10 +1,11 @@
 -- The place of a number in a list.
 use Rattle.std.proofs.Common.{◌≡◌, ℕ, ◌<◌, ◌≤◌, ◌^◌, ◌-◌, Option, Some, None, IsSome, refl, sym, ap, subst, ◌∙◌, arith}
+use Rattle.task_states.proofs.Options.{same_some}
 use Rattle.task_graph.specs.declared.entries.Link.{Link}
 use Rattle.task_graph.specs.declared.entries.Spot.{Spot}
 use Rattle.task_graph.specs.Weave.{Leads, Head, row_of, IsWoven, IsGap, IsUnused, IsBelow, rest_in, rest_from, IsEnd}
 use Rattle.task_graph.proofs.Chains.{same_key, row_with}
-use Rattle.task_graph.proofs.Weaving.{same_some, row_is, link_is}
+use Rattle.task_graph.proofs.Weaving.{row_is, link_is}
 
 pub some_is : {X : Type 0} (o : Option X) (x : X) → o ≡ Some x → IsSome o
 some_is o x is = subst IsSome (sym is) refl

@@ -3,10 +3,11 @@ use Rattle.std.proofs.Common.{◌≡◌, ℕ, ◌<◌, ◌≤◌, ◌^◌, Optio
 use Rattle.std.specs.Option.{option_map}
 use Rattle.std.proofs.lemmas.Bool.{cases_lt}
 use Rattle.task_states.proofs.Maps.{same_or_not}
+use Rattle.task_states.proofs.Options.{not_none, same_some, none_or_some}
 use Rattle.task_graph.specs.declared.entries.Spot.{Spot}
 use Rattle.task_graph.specs.declared.entries.Link.{Link}
 use Rattle.task_graph.specs.Weave.{Above, Leads, Head, row_of, IsEnd, last_behind, IsWoven, IsGap, IsJoined, IsTied, IsUntied, IsLeft}
-use Rattle.task_graph.proofs.Chains.{not_none, same_key, row_with, leads_from_new, leads_to_new, leads_still, leads_over, leads_past}
+use Rattle.task_graph.proofs.Chains.{same_key, row_with, leads_from_new, leads_to_new, leads_still, leads_over, leads_past}
 
 pub same_spot : (a b : Spot) → (a ≡ b) ⊎ (a ≡ b → ⊥)
 same_spot a b =
@@ -14,9 +15,6 @@ same_spot a b =
       | inl one ↦ elim (same_or_not a.place b.place) [ inl two ↦ inl (λ i. record { task = one i; place = two i }) | inr apart ↦ inr (λ same. apart (ap (λ (s : Spot). s.place) same)) ]
       | inr apart ↦ inr (λ same. apart (ap (λ (s : Spot). s.task) same))
     ]
-
-pub same_some : {X : Type 0} (x y : X) → Some x ≡ Some y → x ≡ y
-same_some x y is = cc
 
 abbrev row_some : Option Link → Option (ℕ × ℕ)
 row_some o = option_map (λ (link : Link). (link.task, link.number)) o
@@ -36,10 +34,6 @@ link_is links spot g k is = behind_option (links spot) g k is
 -- no row where there is no link
 pub no_row : (links : Spot → Option Link) (spot : Spot) → links spot ≡ None → row_of links spot ≡ None
 no_row links spot is = ap (option_map (λ (l : Link). (l.task, l.number))) is
-
-pub none_or_some : {X : Type 0} (o : Option X) → (o ≡ None) ⊎ ((x : X) × (o ≡ Some x))
-none_or_some None = inl refl
-none_or_some (Some x) = inr (x, refl)
 
 -- rows of a group that are the same lead alike
 pub leads_alike : {I : Type 0} (row new : I → Option (ℕ × ℕ)) (g : ℕ) (bound : Option ℕ) (o : Option I)

@@ -1,10 +1,34 @@
--- Laws on maps.
-use Rattle.std.specs.Prelude.{◌≡◌, ℕ, Option}
+-- Laws on maps and on deliveries, as statements. The functions of `laws` carry each as their contract.
+use Rattle.std.specs.Prelude.{◌≡◌, ◌↔◌, ℕ, Option}
 use Rattle.std.specs.Option.{option_and_then}
 use Rattle.std.specs.Ordering.{nat_cmp}
 use Rattle.std.specs.FinMap as map
+use Rattle.task_states.specs.declared.states.Awaiter.{Awaiter}
 use Rattle.task_states.specs.Maps.{chosen}
+use Rattle.task_states.specs.States.{Graph}
+use Rattle.task_states.specs.Steps.{delivered, all_delivered}
+use Rattle.task_states.specs.Awaiters.{number_of, IsAwaiter, IsNotAwaited}
 
 -- what a choice makes of a map holds under each key what the choice makes of the value there
 abbrev pub ChoosesKeyByKey : Type 0
 ChoosesKeyByKey = (choice : ℕ → ℕ → Option ℕ) (values : map.FinMap nat_cmp ℕ) (key : ℕ) → map.get (chosen choice values) key ≡ option_and_then (choice key) (map.get values key)
+
+module _ (X K : Type 0) where
+  -- delivering to one awaiter, and then to all that are left, is delivering to all
+  abbrev pub DeliversOneByOne : Type 0
+  DeliversOneByOne =
+      (graph : Graph X K) (task : ℕ) (awaiter : Awaiter) (value : ℕ → X)
+      → IsAwaiter graph task awaiter
+      → all_delivered (delivered graph task awaiter (value (number_of awaiter))) task value ≡ all_delivered graph task value
+
+  -- where nobody awaits a task, delivering to all changes nothing
+  abbrev pub DeliversToNone : Type 0
+  DeliversToNone = (graph : Graph X K) (task : ℕ) (value : ℕ → X) → IsNotAwaited graph task → all_delivered graph task value ≡ graph
+
+  -- after a delivery the same awaiters await each task, but for the one that was delivered to
+  abbrev pub DeliversToOne : Type 0
+  DeliversToOne =
+      (graph : Graph X K) (task : ℕ) (awaiter : Awaiter) (value : X)
+      → IsAwaiter graph task awaiter
+      → (of : ℕ) (other : Awaiter)
+      → IsAwaiter (delivered graph task awaiter value) of other ↔ (IsAwaiter graph of other × (of ≡ task → other ≡ awaiter → ⊥))

@@ -1,6 +1,17 @@
-ghost use Rattle.task_states.specs.Laws.{ChoosesKeyByKey};
+//! The laws of maps and of unfinished tasks, whatever their inputs and kinds are. Each function does nothing: its contract
+//! is the law, which `specs/Laws.antt` states.
+
+ghost use Rattle.task_states.specs.Laws.{ChoosesKeyByKey, DeliversOneByOne, DeliversToNone, DeliversToOne};
 
 /// A law: a map with each value changed or left out by a choice holds under each key what the choice makes of its value.
 pub fn choices_go_key_by_key()
     ensures { ChoosesKeyByKey }
+{}
+
+/// Delivering to the awaiters of a task one by one, until nobody awaits it, gives what delivering to all at once does.
+/// Each delivery takes one awaiter away, and leaves all others.
+pub fn deliveries_go_one_by_one<X, K>()
+    ensures step { DeliversOneByOne X K }
+    ensures end { DeliversToNone X K }
+    ensures left { DeliversToOne X K }
 {}

@@ -1,5 +1,6 @@
 use Rattle.std.proofs.Common.{◌≡◌, Some, ap, sym, ◌∙◌, cond}
 use Rattle.std.specs.Option.{option_map}
+use Rattle.task_states.proofs.Options.{same_some}
 use Rattle.task_graph.specs.declared.entries.Link.{Link}
 use Rattle.task_graph.specs.declared.entries.Place.TheVariants.{Known}
 use Rattle.task_graph.specs.Inside.{entries_at, place_at}
@@ -7,7 +8,7 @@ use Rattle.task_graph.specs.Weave.{Head, head_at, head_of, link_at, with_ends, I
 use Rattle.task_graph.proofs.Writing.{link_placed}
 use Rattle.task_graph.proofs.Tying.{untied, spot_same}
 use Rattle.task_graph.proofs.Walking.{some_is}
-use Rattle.task_graph.proofs.Weaving.{untied-woven, same_some}
+use Rattle.task_graph.proofs.Weaving.{untied-woven}
 use Rattle.task_graph.proofs.entries.Entries.settle.Goals as goal
 
 -- the head of the list, before

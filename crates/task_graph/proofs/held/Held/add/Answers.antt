@@ -1,8 +1,8 @@
 use Rattle.std.proofs.Common.{subst, inl, inr}
 use Rattle.task_states.specs.Awaiters.{IsRunnable}
+use Rattle.task_states.proofs.Runnables.{runs_added}
 use Rattle.task_graph.specs.Contents.{inputs_given}
 use Rattle.task_graph.specs.Graphs.{graph_of}
-use Rattle.task_graph.proofs.Runnables.{runs_added}
 use Rattle.task_graph.proofs.held.Held.add.Goals as goal
 
 pub requeue-requires-clause-queued : goal.requeue-requires-clause-queued

@@ -1,8 +1,8 @@
 use Rattle.std.proofs.Common.{Some, refl, subst}
 use Rattle.task_states.specs.Awaiters.{IsRunnable}
+use Rattle.task_states.proofs.Runnables.{runs_same}
 use Rattle.task_graph.specs.Graphs.{graph_of}
 use Rattle.task_graph.proofs.Marking.{unused_of}
-use Rattle.task_graph.proofs.Runnables.{runs_same}
 use Rattle.task_graph.proofs.held.Held.ask.Goals as goal
 
 pub ask-requires-clause-free : goal.ask-requires-clause-free

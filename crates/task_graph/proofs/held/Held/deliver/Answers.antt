@@ -1,6 +1,5 @@
 use Rattle.std.proofs.Common.{None, refl, sym, inl, inr}
-use Rattle.task_graph.proofs.Chains.{not_none}
-use Rattle.task_graph.proofs.Weaving.{same_some}
+use Rattle.task_states.proofs.Options.{not_none, same_some}
 use Rattle.task_graph.proofs.held.Held.deliver.Goals as goal
 
 pub requeue-requires-clause-queued : goal.requeue-requires-clause-queued

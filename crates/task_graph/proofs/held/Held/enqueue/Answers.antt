@@ -1,6 +1,6 @@
 use Rattle.task_graph.proofs.Cleaning.{more_queued}
 use Rattle.task_graph.specs.Graphs.{graph_of}
-use Rattle.task_graph.proofs.Runnables.{entry_runs}
+use Rattle.task_graph.proofs.Runs.{entry_runs}
 use Rattle.task_graph.proofs.held.Held.enqueue.Goals as goal
 
 pub clean-requires-clause-queued : goal.clean-requires-clause-queued

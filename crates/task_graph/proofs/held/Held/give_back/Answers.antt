@@ -1,7 +1,7 @@
 use Rattle.std.proofs.Common.{None, subst, inl, inr}
 use Rattle.task_states.specs.Awaiters.{IsRunnable}
+use Rattle.task_states.proofs.Runnables.{runs_changed}
 use Rattle.task_graph.specs.Graphs.{graph_of}
-use Rattle.task_graph.proofs.Runnables.{runs_changed}
 use Rattle.task_graph.proofs.held.Held.give_back.Goals as goal
 
 pub requeue-requires-clause-queued : goal.requeue-requires-clause-queued

@@ -1,7 +1,7 @@
 use Rattle.std.proofs.Common.{subst}
 use Rattle.task_states.specs.Awaiters.{IsRunnable}
+use Rattle.task_states.proofs.Runnables.{runs_removed}
 use Rattle.task_graph.specs.Graphs.{graph_of}
-use Rattle.task_graph.proofs.Runnables.{runs_removed}
 use Rattle.task_graph.proofs.held.Held.remove.Goals as goal
 
 pub clean-requires-clause-queued : goal.clean-requires-clause-queued

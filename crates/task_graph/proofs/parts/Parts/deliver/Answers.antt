@@ -1,9 +1,9 @@
 use Rattle.std.proofs.Common.{◌≡◌, ap, sym, subst, ◌∙◌, refl, inl, inr, Some, None, set}
 use Rattle.task_states.specs.States.{Known}
 use Rattle.task_states.specs.Awaiters.{IsRunnable}
-use Rattle.task_graph.proofs.Runnables.{runs_changed, runs_same}
 use Rattle.task_states.specs.Awaiters.{task_of}
 use Rattle.task_states.specs.Steps.{delivered}
+use Rattle.task_states.proofs.Runnables.{runs_changed, runs_same}
 use Rattle.task_graph.specs.Graphs.{graph_of}
 use Rattle.task_graph.proofs.Awaiting.{one_least}
 use Rattle.task_graph.proofs.Marking.{some_entry}

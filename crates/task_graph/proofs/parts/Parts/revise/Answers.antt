@@ -1,8 +1,8 @@
 use Rattle.std.proofs.Common.{◌≡◌, ap, subst, ◌∙◌, sym}
+use Rattle.task_states.proofs.Options.{same_some}
 use Rattle.task_graph.specs.Inside.{entries_at, shown_entry}
 use Rattle.task_graph.specs.Graphs.{graph_of, with_revised}
 use Rattle.task_graph.proofs.Runs.{caller_low}
-use Rattle.task_graph.proofs.Weaving.{same_some}
 use Rattle.task_graph.proofs.Revising.{revised-graph, revised-whole}
 use Rattle.task_graph.proofs.parts.Parts.revise.Goals as goal
 

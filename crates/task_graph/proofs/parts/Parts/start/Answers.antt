@@ -1,8 +1,8 @@
 use Rattle.std.proofs.Common.{◌+◌, Some, sym, subst, ◌∙◌, arith}
 use Rattle.task_states.specs.declared.states.TaskStatus.TheVariants.{Ready}
+use Rattle.task_states.proofs.Options.{same_some}
 use Rattle.task_graph.specs.Inside.{shown_entry}
 use Rattle.task_graph.specs.Graphs.{graph_of, IsRevised}
-use Rattle.task_graph.proofs.Weaving.{same_some}
 use Rattle.task_graph.proofs.Marking.{entry_of_status, start_revised, start_few, as_changed}
 use Rattle.task_graph.proofs.Runs.{caller_low, task_there}
 use Rattle.task_graph.proofs.parts.Parts.start.Goals as goal
