@@ -1,13 +1,7 @@
 -- A task whose worker or whose asked output changes.
-use Rattle.std.proofs.Common.{◌≡◌, ℕ, cond, Option, Some, None, nat_eq, refl, sym, ap, ◌∙◌, inl, inr}
+use Rattle.std.proofs.Common.{◌≡◌, ℕ, Option, Some, None, sym, ap, ◌∙◌, inl}
 use Rattle.std.specs.Option.{option_map}
-use Rattle.std.specs.FinMap as map
-use Rattle.std.specs.Ordering.{nat_cmp}
-use Rattle.cht_ids.specs.declared.refs.Ref.{Ref}
-use Rattle.task_states.specs.States.{Unfinished}
-use Rattle.task_states.specs.Maps.{put_at}
-use Rattle.task_states.proofs.Maps.{same_or_not, test_same, test_apart, same_maps, get_inserted}
-use Rattle.task_states.proofs.Options.{map_behind, map_id}
+use Rattle.task_states.proofs.Options.{map_behind}
 use Rattle.task_graph.specs.declared.entries.Link.{Link}
 use Rattle.task_graph.specs.declared.entries.Spot.{Spot}
 use Rattle.task_graph.specs.Weave.{Head, IsWoven}

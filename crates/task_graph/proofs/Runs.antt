@@ -8,7 +8,8 @@ use Rattle.task_states.specs.declared.states.TaskStatus.{TaskStatus}
 use Rattle.task_states.specs.declared.states.TaskStatus.TheVariants.{Unknown, Ready}
 use Rattle.task_states.specs.States.{Unfinished, task_at, status, status_of, is_stopped}
 use Rattle.task_states.specs.Awaiters.{IsRunnable}
-use Rattle.task_states.proofs.Options.{not_none, same_some}
+use Rattle.task_states.proofs.Options.{not_none, same_some, map_behind}
+use Rattle.task_states.proofs.Runnables.{ready_of}
 use Rattle.task_graph.specs.declared.callers.Caller.{Caller}
 use Rattle.task_graph.specs.declared.entries.Entry.{Entry}
 use Rattle.task_graph.specs.declared.parts.Parts.{Parts}

@@ -2,13 +2,10 @@
 use Rattle.std.proofs.Common.{◌≡◌, ℕ, Option, Some, None, IsSome, refl, sym, ap, ◌∙◌}
 use Rattle.std.specs.Option.{option_map}
 use Rattle.cht_ids.specs.declared.refs.Ref.{Ref}
-use Rattle.task_states.specs.declared.states.Awaiter.{Awaiter}
 use Rattle.task_states.specs.declared.states.Awaiter.TheVariants.{Input as AtInput, Asked}
 use Rattle.task_states.specs.States.{task_at, Unfinished}
-use Rattle.task_states.specs.Awaiters.{IsAwaiter, IsNotAwaited}
+use Rattle.task_states.specs.Awaiters.{IsNotAwaited}
 use Rattle.task_states.proofs.Options.{not_none}
-use Rattle.task_graph.specs.declared.entries.Entry.{Entry}
-use Rattle.task_graph.specs.declared.entries.Spot.{Spot}
 use Rattle.task_graph.specs.declared.parts.Parts.{Parts}
 use Rattle.task_graph.specs.Inside.{entries_at}
 use Rattle.task_graph.specs.Weave.{head_at, head_of}
