@@ -86,14 +86,14 @@ module _ {X K : Type 0} where
   each_settled graph task value = record graph { tasks = each_changed (inputs_settled task value) graph.tasks }
 
   -- the input of a task that is there
-  input_there : (graph : Graph X K) (q p : ℕ) (u : Unfinished X K) → task_at graph q ≡ Some u → input_at graph q p ≡ slice_get u.inputs p
+  pub input_there : (graph : Graph X K) (q p : ℕ) (u : Unfinished X K) → task_at graph q ≡ Some u → input_at graph q p ≡ slice_get u.inputs p
   input_there graph q p u is = ap (λ (o : Option (Unfinished X K)). elim o as (λ _. Option (Input X)) [ None ↦ None | Some task ↦ slice_get task.inputs p ]) is
 
   no_input : (graph : Graph X K) (q p : ℕ) → task_at graph q ≡ None → input_at graph q p ≡ None
   no_input graph q p is = ap (λ (o : Option (Unfinished X K)). elim o as (λ _. Option (Input X)) [ None ↦ None | Some task ↦ slice_get task.inputs p ]) is
 
   -- the task behind an input
-  task_behind : (graph : Graph X K) (q p : ℕ) (input : Input X) → input_at graph q p ≡ Some input → (u : Unfinished X K) × (task_at graph q ≡ Some u) × (slice_get u.inputs p ≡ Some input)
+  pub task_behind : (graph : Graph X K) (q p : ℕ) (input : Input X) → input_at graph q p ≡ Some input → (u : Unfinished X K) × (task_at graph q ≡ Some u) × (slice_get u.inputs p ≡ Some input)
   task_behind graph q p input is =
       elim (none_or_some (task_at graph q)) [
         | inl none ↦ absurd (not_none (input_at graph q p) input (no_input graph q p none) is)
@@ -266,7 +266,7 @@ module _ {X K : Type 0} where
       ]
 
   -- an awaiter of a task has one caller and one number, if it asked
-  asked_once : (graph : Graph X K) (task c n d m : ℕ) → IsAsked graph task c n → IsAsked graph task d m → Asked c n ≡ Asked d m
+  pub asked_once : (graph : Graph X K) (task c n d m : ℕ) → IsAsked graph task c n → IsAsked graph task d m → Asked c n ≡ Asked d m
   asked_once graph task c n d m one two =
       let same = same_some one.unfinished two.unfinished (sym one.there ∙ two.there) in
       let caller : c ≡ d = sym one.caller_is ∙ ap (λ (u : Unfinished X K). u.caller) same ∙ two.caller_is in

@@ -1,5 +1,6 @@
 pub mod Changes
 pub mod Deliveries
+pub mod Listings
 pub mod Maps
 pub mod Options
 pub mod Runnables

@@ -22,11 +22,11 @@ test_same a = grind (arith, nat_tests)
 pub test_apart : (a b : ℕ) → (a ≡ b → ⊥) → nat_eq a b ≡ false
 test_apart a b apart = grind (arith, nat_tests)
 
-first_part : (a b : Bool) → T (a && b) → T a
+pub first_part : (a b : Bool) → T (a && b) → T a
 first_part true b p = tt
 first_part false b p = p
 
-second_part : (a b : Bool) → T (a && b) → T b
+pub second_part : (a b : Bool) → T (a && b) → T b
 second_part true b p = p
 second_part false b p = absurd p
 
@@ -36,7 +36,7 @@ less_not_equal Equal p = absurd p
 less_not_equal Greater p = absurd p
 
 -- a key below all others is none of them
-missed : {X : Type 0} (key : ℕ) (entries : List (ℕ × X)) → T (below_all nat_cmp key entries) → find nat_cmp key entries ≡ None
+pub missed : {X : Type 0} (key : ℕ) (entries : List (ℕ × X)) → T (below_all nat_cmp key entries) → find nat_cmp key entries ≡ None
 missed key [] below = refl
 missed key (e ∷ entries) below =
     ap (λ b. cond b (Some e.1) (find nat_cmp key entries)) (less_not_equal (nat_cmp key e.0) (first_part _ _ below)) ∙ missed key entries (second_part _ _ below)

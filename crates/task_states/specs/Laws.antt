@@ -1,5 +1,6 @@
 -- Laws on maps and on deliveries, as statements. The functions of `laws` carry each as their contract.
-use Rattle.std.specs.Prelude.{◌≡◌, ◌↔◌, ℕ, Option}
+use Rattle.std.specs.Prelude.{◌≡◌, ◌↔◌, ℕ, [], ◌∷◌, Option, IsPermutation}
+use Rattle.std.specs.List.{Contains}
 use Rattle.std.specs.Option.{option_and_then}
 use Rattle.std.specs.Ordering.{nat_cmp}
 use Rattle.std.specs.FinMap as map
@@ -8,6 +9,7 @@ use Rattle.task_states.specs.Maps.{chosen}
 use Rattle.task_states.specs.States.{Graph}
 use Rattle.task_states.specs.Steps.{delivered, all_delivered}
 use Rattle.task_states.specs.Awaiters.{number_of, IsAwaiter, IsNotAwaited}
+use Rattle.task_states.specs.Listing.{awaiters}
 
 -- what a choice makes of a map holds under each key what the choice makes of the value there
 abbrev pub ChoosesKeyByKey : Type 0
@@ -32,3 +34,18 @@ module _ (X K : Type 0) where
       → IsAwaiter graph task awaiter
       → (of : ℕ) (other : Awaiter)
       → IsAwaiter (delivered graph task awaiter value) of other ↔ (IsAwaiter graph of other × (of ≡ task → other ≡ awaiter → ⊥))
+
+  -- the list of the awaiters of a task has them all, and no others
+  abbrev pub ListsAwaiters : Type 0
+  ListsAwaiters = (graph : Graph X K) (task : ℕ) (awaiter : Awaiter) → Contains (awaiters graph task) awaiter ↔ IsAwaiter graph task awaiter
+
+  -- a delivery takes its awaiter out of the list, once
+  abbrev pub TakesOneOut : Type 0
+  TakesOneOut =
+      (graph : Graph X K) (task : ℕ) (awaiter : Awaiter) (value : X)
+      → IsAwaiter graph task awaiter
+      → IsPermutation (awaiters graph task) (awaiter ∷ awaiters (delivered graph task awaiter value) task)
+
+  -- where nobody awaits a task the list is empty
+  abbrev pub ListsNone : Type 0
+  ListsNone = (graph : Graph X K) (task : ℕ) → IsNotAwaited graph task → awaiters graph task ≡ []

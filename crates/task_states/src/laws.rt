@@ -1,7 +1,7 @@
 //! The laws of maps and of unfinished tasks, whatever their inputs and kinds are. Each function does nothing: its contract
 //! is the law, which `specs/Laws.antt` states.
 
-ghost use Rattle.task_states.specs.Laws.{ChoosesKeyByKey, DeliversOneByOne, DeliversToNone, DeliversToOne};
+ghost use Rattle.task_states.specs.Laws.{ChoosesKeyByKey, DeliversOneByOne, DeliversToNone, DeliversToOne, ListsAwaiters, ListsNone, TakesOneOut};
 
 /// A law: a map with each value changed or left out by a choice holds under each key what the choice makes of its value.
 pub fn choices_go_key_by_key()
@@ -14,4 +14,12 @@ pub fn deliveries_go_one_by_one<X, K>()
     ensures step { DeliversOneByOne X K }
     ensures end { DeliversToNone X K }
     ensures left { DeliversToOne X K }
+{}
+
+/// The list of the awaiters of a task, and what a delivery takes out of it: each awaiter stands in it once, so that the list
+/// is one shorter after each delivery, and what is done for each of its members in any order is done for all awaiters.
+pub fn awaiters_are_listed<X, K>()
+    ensures members { ListsAwaiters X K }
+    ensures none { ListsNone X K }
+    ensures delivered { TakesOneOut X K }
 {}
