@@ -4,7 +4,7 @@
 ghost use Rattle.std.specs.Prelude.{ℕ};
 ghost use Rattle.name_machine.specs.Forgetting.{ForgettingReplays};
 ghost use Rattle.name_machine.specs.Replay.{Plans};
-ghost use Rattle.name_machine.specs.Laws.{AccountsChange, LeavesCallers, LeavesWorkers, FactsHold, StopsAreLast, StopsEnd, FinishedOnce, RefusesStrange, DeadIsStrange, OthersAreStrange, UncollectedIsStrange, RefusesOutOfTurn, RefusesNotReady, RefusesSecondStart, RefusesUnplanned, OpeningStands, EmptyBothWays, StandsStep};
+ghost use Rattle.name_machine.specs.Laws.{AccountsChange, LeavesCallers, LeavesWorkers, FactsHold, StopsAreLast, StopsEnd, FinishedOnce, RefusesStrange, DeadIsStrange, OthersAreStrange, UncollectedIsStrange, RefusesOutOfTurn, RefusesNotReady, RefusesSecondStart, RefusesUnplanned, OpeningStands, EmptyBothWays, StandsStep, OpeningIsOrderly, KeepsOrder};
 
 use task_types::Library;
 
@@ -59,10 +59,16 @@ pub fn forgetting_replays<C, K>()
 {}
 
 /// What a control state with contents stands for: the opening state stands for the opening state; it has nothing in
-/// it exactly where what it stands for has nothing; and a register, a copy, an ask, a stop, a start and a give-back are
-/// the machine's steps between the states that are stood for.
+/// it exactly where what it stands for has nothing; and each event that a replay allows, and that is as the machine
+/// wants it, is the machine's step of its name between the states that are stood for.
 pub fn standing<L: Library>()
     ensures opening { OpeningStands L.meanings }
     ensures empty { EmptyBothWays L.meanings L.Chunk.arity }
     ensures steps { (plans : Plans L.Kind) → StandsStep L.meanings L.Chunk.arity plans }
+{}
+
+/// A control state with contents stays in order: the opening state is, and each such event leaves it so.
+pub fn order<L: Library>()
+    ensures opening { OpeningIsOrderly L.Kind L.Chunk.arity }
+    ensures steps { (plans : Plans L.Kind) → KeepsOrder L.meanings L.Chunk.arity plans }
 {}
