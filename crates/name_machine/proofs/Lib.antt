@@ -28,5 +28,6 @@ pub mod Grow
 pub mod Linking
 pub mod AskedFor
 pub mod AskStands
+pub mod FinishNames
 pub mod StandsStep
 pub mod Empty
