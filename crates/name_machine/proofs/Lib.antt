@@ -24,9 +24,11 @@ pub mod WorkerParts
 pub mod Stopping
 pub mod Forgets
 pub mod Stand
+pub mod Orderly
 pub mod Grow
 pub mod Linking
 pub mod AskedFor
 pub mod AskStands
 pub mod StandsStep
+pub mod KeepsOrder
 pub mod Empty
