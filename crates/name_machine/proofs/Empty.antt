@@ -15,6 +15,7 @@ use Rattle.name_machine.specs.Control.{Control, is_uncollected}
 use Rattle.name_machine.specs.Standing.{task_shown, graph_shown, held_shown, is_output, holding_shown, ask_shown, machine_of, IsOrderly, HasNothing, HoldsNothing}
 use Rattle.name_machine.specs.Laws.{EmptyBothWays}
 use Rattle.name_machine.proofs.Values.{any_to}
+use Rattle.name_machine.proofs.Orderly.{holder_is_there}
 use Rattle.name_machine.proofs.Works.{chosen_from, chosen_to}
 
 module _ {X : Type 0} where
@@ -64,7 +65,7 @@ module _ {C K : Type 0} (lib : Meanings C K) (arity : C → ℕ) (control : Cont
       false_if true never = absurd (never refl)
       false_if false never = refl
   none_outside has number entry is (Task task) held outside =
-      let there = some_value (task_at control.graph task) (orderly.holders number task entry is held) in
+      let there = some_value (task_at control.graph task) (holder_is_there arity control orderly number task entry is held) in
       none_in control.graph.tasks (no_tasks_left has) task there.0 there.1
   none_outside has number entry is (Body body) held outside = outside
 

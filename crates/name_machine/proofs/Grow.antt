@@ -43,6 +43,7 @@ use Rattle.name_machine.proofs.Ends.{inputs_at}
 use Rattle.name_machine.proofs.Invariant.{same_readings}
 use Rattle.name_machine.proofs.Works.{chosen_from, chosen_to}
 use Rattle.name_machine.proofs.Stand.{shown_at, not_true}
+use Rattle.name_machine.proofs.Orderly.{input_is_live, output_is_live, output_is_drawn}
 
 -- ---- Depths
 
@@ -92,7 +93,7 @@ module _ {C K : Type 0} (lib : Meanings C K) (arity : C → ℕ) (control : Cont
   one_task : (q : ℕ) (o : Option (Unfinished Ref K)) → task_at control.graph q ≡ o → option_map (task_shown more) o ≡ option_map (task_shown control.names) o
   one_task q None is = refl
   one_task q (Some t) is =
-      let inputs = all_inputs t.inputs (λ p r at. orderly.inputs q p t r is at) in
+      let inputs = all_inputs t.inputs (λ p r at. input_is_live arity control orderly q p t r is at) in
       λ i. Some (record { caller = t.caller; kind = t.kind; inputs = inputs i; runner = t.runner; asked = t.asked })
 
   pub graph_grown : graph_shown more control.graph ≡ graph_shown control.names control.graph
@@ -111,7 +112,7 @@ module _ {C K : Type 0} (lib : Meanings C K) (arity : C → ℕ) (control : Cont
     refl,
   )
   one_ask drawn k a up levels is (Some r) at =
-      let same = tree-kept arity control.names more orderly.sound is_more r (orderly.outputs k a r is at) in (same, ap Some same)
+      let same = tree-kept arity control.names more orderly.sound is_more r (output_is_live arity control orderly k a r is at) in (same, ap Some same)
 
   pub asks_grown : (drawn : ℕ) → control.drawn ≤ drawn → HasLevels (graph_shown control.names control.graph) control.drawn
       → chosen (λ task ask. Some (ask_shown lib drawn more (graph_shown more control.graph) ask)) control.asks ≡ (machine_of lib control).asks
@@ -202,7 +203,7 @@ module _ {C K : Type 0} (lib : Meanings C K) (arity : C → ℕ) (control : Cont
   no_output n (Caller caller) high =
       false_or (list_any (is_uncollected caller n) (map.values control.asks)) (λ is.
       let one = any_to (is_uncollected caller n) control.asks is in
-      let low = orderly.asked one.0 one.1 one.2 in
+      let low = output_is_drawn arity control orderly one.0 one.1 one.2 in
       let number = uncollected_number caller n one.1 one.3 in
       omega arith)
   no_output n (Task task) high = refl

@@ -24,10 +24,12 @@ pub mod WorkerParts
 pub mod Stopping
 pub mod Forgets
 pub mod Stand
+pub mod Orderly
 pub mod Grow
 pub mod Linking
 pub mod AskedFor
 pub mod AskStands
 pub mod FinishNames
 pub mod StandsStep
+pub mod KeepsOrder
 pub mod Empty

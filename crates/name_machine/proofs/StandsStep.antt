@@ -1,4 +1,4 @@
--- Events that end nothing are the machine's steps.
+-- Each event of a control state is the machine's step.
 use Rattle.std.proofs.Common.{◌≡◌, ℕ, true, List, [], ◌∷◌, length, sym, subst}
 use Rattle.cht_ids.specs.declared.refs.Id.{Id}
 use Rattle.cht_ids.specs.declared.refs.Ref.{Ref}
@@ -26,12 +26,12 @@ module _ {C K : Type 0} (lib : Meanings C K) (arity : C → ℕ) (plans : Plans 
   pub stands_step : StandsStep lib arity plans
   stands_step control contents (Register caller id children) orderly facts these allowed = register_some control contents caller id children orderly facts these.0 these.1 these.2 allowed
   stands_step control contents (Copy caller from to) orderly facts these allowed = copy_stands lib arity control orderly plans caller from to facts allowed
-  stands_step control contents (Delete caller id) orderly facts these allowed = absurd these
+  stands_step control contents (Delete caller id) orderly facts these allowed = ?
   stands_step control contents (AskEvent caller task kind inputs) orderly facts these allowed =
       ask_stands lib arity control plans caller task kind inputs orderly facts these allowed
-  stands_step control contents (Collect caller task got) orderly facts these allowed = absurd these
-  stands_step control contents (Abandon caller) orderly facts these allowed = absurd these
+  stands_step control contents (Collect caller task got) orderly facts these allowed = ?
+  stands_step control contents (Abandon caller) orderly facts these allowed = ?
   stands_step control contents (Stop caller) orderly facts these allowed = stands_still lib arity plans control contents (Stop caller) orderly.sound orderly.reached tt allowed
   stands_step control contents (Start worker task) orderly facts these allowed = stands_still lib arity plans control contents (Start worker task) orderly.sound orderly.reached tt allowed
   stands_step control contents (GiveBack worker task) orderly facts these allowed = stands_still lib arity plans control contents (GiveBack worker task) orderly.sound orderly.reached tt allowed
-  stands_step control contents (Finish worker task chunks tasks result) orderly facts these allowed = absurd these
+  stands_step control contents (Finish worker task chunks tasks result) orderly facts these allowed = ?

@@ -115,6 +115,12 @@ abbrev pub HasNumber : ℕ → Ref → Type 0
 HasNumber number Null = Unit {0}
 HasNumber number (Held id) = id.number ≡ number
 
+-- nothing was delivered, or null was
+abbrev pub HasNoOutput : Option Ref → Type 0
+HasNoOutput None = Unit {0}
+HasNoOutput (Some Null) = Unit {0}
+HasNoOutput (Some (Held id)) = ⊥
+
 -- a reference is null, or a live identifier with this holder
 abbrev pub IsRefOf : {C : Type 0} → NameState C → Holder → Ref → Type 0
 IsRefOf names holder Null = Unit {0}
@@ -142,11 +148,11 @@ module _ {C K : Type 0} where
     pub outputs : (task : ℕ) (ask : Ask (Unit {0}) Ref) (r : Ref) → map.get control.asks task ≡ Some ask → ask.delivered ≡ Some r
         → IsRefOf control.names (Caller ask.caller) r × HasNumber ask.number r
 
-  -- Numbers that were drawn for copies that are still to be made: none is live, none is above what was drawn, and each stands at one
-  -- place: under one awaiting input, or in one ask.
+  -- Numbers that were drawn for copies: a copy that is still to be made, and an output that is null, have no live identifier under
+  -- their number; no number is above what was drawn; and each stands at one place, under one awaiting input or in one ask.
   pub record AreSetAside (control : Control C (Unit {0}) K) : Type 0 where
     pub inputs : (number : ℕ) → AwaitsUnder control.graph number → (number ≤ control.drawn) × (id_at control.names number ≡ None)
-    pub outputs : (task : ℕ) (ask : Ask (Unit {0}) Ref) → map.get control.asks task ≡ Some ask → ask.delivered ≡ None → id_at control.names ask.number ≡ None
+    pub outputs : (task : ℕ) (ask : Ask (Unit {0}) Ref) → map.get control.asks task ≡ Some ask → HasNoOutput ask.delivered → id_at control.names ask.number ≡ None
     pub drawn : (task : ℕ) (ask : Ask (Unit {0}) Ref) → map.get control.asks task ≡ Some ask → ask.number ≤ control.drawn
     pub one_place : (task place awaited other place_of_other awaited_by_other number : ℕ) → input_at control.graph task place ≡ Some (Awaits awaited number)
         → input_at control.graph other place_of_other ≡ Some (Awaits awaited_by_other number) → (task ≡ other) × (place ≡ place_of_other)
