@@ -1,20 +1,19 @@
 -- Names that grow by copies: what they keep. Copies of one reference under free numbers, and fewer names.
-use Rattle.std.proofs.Common.{◌≡◌, ℕ, zero, suc, ◌+◌, ◌<◌, ◌≤◌, ◌⊎◌, inl, inr, Bool, true, false, cond, not, nat_cmp, List, [], ◌∷◌, ◌++◌, Option, None, Some, is_some, IsSome, refl, sym, ap, subst, ◌∙◌, arith}
+use Rattle.std.proofs.Common.{◌≡◌, ℕ, ◌≤◌, ◌⊎◌, inl, inr, Bool, true, false, cond, not, List, [], ◌∷◌, ◌++◌, Option, None, Some, is_some, IsSome, refl, sym, ap, subst, ◌∙◌, arith}
 use Rattle.std.specs.Option.{option_map}
 use Rattle.std.specs.FinMap as map
 use Rattle.cht_ids.specs.declared.refs.Id.{Id}
 use Rattle.cht_ids.specs.declared.refs.Ref.{Ref}
 use Rattle.cht_ids.specs.declared.refs.Ref.TheVariants.{Null, Id as Held}
 use Rattle.name_states.specs.declared.holder.Holder.{Holder}
-use Rattle.name_states.specs.declared.holder.Holder.TheVariants.{Caller, Task, Body}
-use Rattle.name_states.specs.States.{NameState, IdRecord, BodyRecord, id_at, body_at, record_of, owned_by, holder_of, IsLiveRef}
+use Rattle.name_states.specs.declared.holder.Holder.TheVariants.{Body}
+use Rattle.name_states.specs.States.{NameState, IdRecord, id_at, body_at, record_of, IsLiveRef}
 use Rattle.name_states.specs.Steps.{IsOutside, without_id}
 use Rattle.name_states.specs.Steps as names
-use Rattle.name_states.specs.Reached.{swept}
 use Rattle.name_states.specs.Rules.{IsSound, AreReached, AreWithin}
 use Rattle.name_states.specs.Trees.{tree_named, body_tree, tree_of}
-use Rattle.name_states.proofs.Basics.{none_not_some, none_or_some, some_value, same_some, same_or_not, inserted_here, inserted_other, get_retained}
-use Rattle.name_states.proofs.Within.{AreMore, owned-same, number-naming, naming-number}
+use Rattle.name_states.proofs.Basics.{none_not_some, some_value, same_some, same_or_not, inserted_here, inserted_other, get_retained}
+use Rattle.name_states.proofs.Within.{AreMore, number-naming, naming-number}
 use Rattle.name_states.proofs.Copies.{copied-here, copied-from, bodies-with_copy}
 use Rattle.name_states.proofs.Reaching.{reached-more}
 use Rattle.name_states.proofs.Trees.{body-tree-kept}

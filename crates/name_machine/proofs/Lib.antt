@@ -30,6 +30,9 @@ pub mod Linking
 pub mod AskedFor
 pub mod AskStands
 pub mod FinishNames
+pub mod FinishNamesRead
+pub mod FinishMiddle
+pub mod FinishChunks
 pub mod StandsStep
 pub mod KeepsOrder
 pub mod Empty
