@@ -33,6 +33,7 @@ pub mod FinishNames
 pub mod FinishNamesRead
 pub mod FinishMiddle
 pub mod FinishChunks
+pub mod FinishTasks
 pub mod StandsStep
 pub mod KeepsOrder
 pub mod Empty
