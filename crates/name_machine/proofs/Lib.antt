@@ -34,6 +34,9 @@ pub mod FinishNamesRead
 pub mod FinishMiddle
 pub mod FinishChunks
 pub mod FinishTasks
+pub mod FinishAdded
+pub mod FinishAwaiting
+pub mod FinishSettled
 pub mod StandsStep
 pub mod KeepsOrder
 pub mod Empty
