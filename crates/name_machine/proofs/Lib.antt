@@ -37,6 +37,8 @@ pub mod FinishTasks
 pub mod FinishAdded
 pub mod FinishAwaiting
 pub mod FinishSettled
+pub mod FinishEnd
+pub mod FinishFacts
 pub mod StandsStep
 pub mod KeepsOrder
 pub mod Empty
