@@ -24,6 +24,12 @@ use Rattle.name_machine.proofs.Works.{chosen_from, chosen_to}
 use Rattle.name_machine.proofs.Grow.{deeper}
 use Rattle.name_machine.proofs.AskedFor.{asked_is}
 
+-- an ask with references shows as an ask with trees
+pub record ShowsAs {C : Type 0} (names : NameState C) (a : Ask (Unit {0}) Ref) (b : Ask (Tree C) (Tree C)) : Type 0 where
+  pub caller : b.caller ≡ a.caller
+  pub number : b.number ≡ a.number
+  pub delivered : b.delivered ≡ option_map (tree_of names) a.delivered
+
 module _ {C K : Type 0} (lib : Meanings C K) where
   goal_is_its : (below : ℕ) (graph : Graph (Tree C) K) (levels : HasLevels graph below) (depth q : ℕ) (t : Unfinished (Tree C) K) → task_at graph q ≡ Some t → levels.level q < depth
       → goal_within lib depth graph q ≡ lib.goal t.kind (each (read_input (goal_within lib depth graph)) t.inputs)
@@ -57,13 +63,7 @@ module _ {C K : Type 0} (lib : Meanings C K) where
   }
 
   module _ (machine : Machine C K) (facts : HoldsTogether lib machine) (names : NameState C) where
-    -- an ask with references shows as an ask with trees
-    pub record ShowsAs (a : Ask (Unit {0}) Ref) (b : Ask (Tree C) (Tree C)) : Type 0 where
-      pub caller : b.caller ≡ a.caller
-      pub number : b.number ≡ a.number
-      pub delivered : b.delivered ≡ option_map (tree_of names) a.delivered
-
-    goal_by_facts : (k : ℕ) (a : Ask (Unit {0}) Ref) (b : Ask (Tree C) (Tree C)) → map.get machine.asks k ≡ Some b → ShowsAs a b → (o : Option Ref) → a.delivered ≡ o
+    goal_by_facts : (k : ℕ) (a : Ask (Unit {0}) Ref) (b : Ask (Tree C) (Tree C)) → map.get machine.asks k ≡ Some b → ShowsAs names a b → (o : Option Ref) → a.delivered ≡ o
         → goal_shown lib machine.drawn names machine.graph a.number o ≡ b.goal
     goal_by_facts k a b is shows None none =
         elim (facts.served k b is) [
@@ -80,7 +80,7 @@ module _ {C K : Type 0} (lib : Meanings C K) where
           | inr waits ↦ absurd (none_not_some waits.0 delivered)
         ]
 
-    ask_by_facts : (k : ℕ) (a : Ask (Unit {0}) Ref) (b : Ask (Tree C) (Tree C)) → map.get machine.asks k ≡ Some b → ShowsAs a b → ask_shown lib machine.drawn names machine.graph a ≡ b
+    ask_by_facts : (k : ℕ) (a : Ask (Unit {0}) Ref) (b : Ask (Tree C) (Tree C)) → map.get machine.asks k ≡ Some b → ShowsAs names a b → ask_shown lib machine.drawn names machine.graph a ≡ b
     ask_by_facts k a b is shows =
         let goal = goal_by_facts k a b is shows a.delivered refl in
         let caller = sym shows.caller in
@@ -91,7 +91,7 @@ module _ {C K : Type 0} (lib : Meanings C K) where
     -- Where the facts hold, the goals of asks are those that are read off the tasks: so asks with references show as these asks, where
     -- callers, numbers and outputs do.
     pub asks_by_facts : (asks : map.FinMap nat_cmp (Ask (Unit {0}) Ref))
-        → ((k : ℕ) (a : Ask (Unit {0}) Ref) → map.get asks k ≡ Some a → (b : Ask (Tree C) (Tree C)) × (map.get machine.asks k ≡ Some b) × ShowsAs a b)
+        → ((k : ℕ) (a : Ask (Unit {0}) Ref) → map.get asks k ≡ Some a → (b : Ask (Tree C) (Tree C)) × (map.get machine.asks k ≡ Some b) × ShowsAs names a b)
         → ((k : ℕ) (b : Ask (Tree C) (Tree C)) → map.get machine.asks k ≡ Some b → (a : Ask (Unit {0}) Ref) × (map.get asks k ≡ Some a))
         → chosen (λ task ask. Some (ask_shown lib machine.drawn names machine.graph ask)) asks ≡ machine.asks
     asks_by_facts asks shows back =

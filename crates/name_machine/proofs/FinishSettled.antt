@@ -99,7 +99,7 @@ module _ {X K : Type 0} where
     end_to q p i apart is = ends.inputs q p apart ∙ ap (option_map f) is
 
 module _ {X : Type 0} (gone : ℕ) (value : ℕ → X) where
-  settled_here : (n : ℕ) → settled gone value (Awaits gone n) ≡ Known (value n)
+  pub settled_here : (n : ℕ) → settled gone value (Awaits gone n) ≡ Known (value n)
   settled_here n = ap (λ b. cond b (Known (value n)) (Awaits gone n)) (test_same gone)
 
   pub settled_known : (input : Input X) (x : X) → Known x ≡ settled gone value input → (input ≡ Known x) ⊎ ((n : ℕ) × (input ≡ Awaits gone n) × (value n ≡ x))
@@ -185,7 +185,7 @@ module _ {C K : Type 0} (arity : C → ℕ) (gone : ℕ) (control : Control C (U
     ran_is : (t : Unfinished Ref K) → task_at control.graph gone ≡ Some t → t ≡ ran
     ran_is t at = same_some t ran (sym at ∙ there)
 
-    asked_free : (n : ℕ) → ran.asked ≡ Some n → id_at control.names n ≡ None
+    pub asked_free : (n : ℕ) → ran.asked ≡ Some n → id_at control.names n ≡ None
     asked_free n asked =
         let own = own_ask n asked in
         ap (id_at control.names) (sym own.4) ∙ middle.aside.outputs own.0 own.1 own.2 (subst HasNoOutput (sym own.5) tt)
@@ -269,7 +269,7 @@ module _ {C K : Type 0} (arity : C → ℕ) (gone : ℕ) (control : Control C (U
     still_free : (m : ℕ) → ((h : Holder) → IsAwaiter control.graph gone m h → ⊥) → id_at control.names m ≡ None → id_at copied m ≡ None
     still_free m never none = free_by control.names copied (IsCopyIn r list) grow m (λ entry new. never entry.holder (awaiter_of control.graph gone m entry.holder new.0)) none
 
-    answered_was : (key : ℕ) (b : Ask (Unit {0}) Ref) → map.get answered_asks key ≡ Some b → (a : Ask (Unit {0}) Ref) × (map.get control.asks key ≡ Some a) × IsAnswered ran.asked r a b
+    pub answered_was : (key : ℕ) (b : Ask (Unit {0}) Ref) → map.get answered_asks key ≡ Some b → (a : Ask (Unit {0}) Ref) × (map.get control.asks key ≡ Some a) × IsAnswered ran.asked r a b
     answered_was key b is =
         let was = mapped_from (answered_with ran.asked r) (map.get control.asks key) b (sym (get-each_changed (answered_with ran.asked r) control.asks key) ∙ is) in
         (was.0, was.1, subst (IsAnswered ran.asked r was.0) (sym was.2) (answer_is ran.asked r was.0))

@@ -39,6 +39,7 @@ pub mod FinishAwaiting
 pub mod FinishSettled
 pub mod FinishEnd
 pub mod FinishFacts
+pub mod FinishShown
 pub mod StandsStep
 pub mod KeepsOrder
 pub mod Empty
