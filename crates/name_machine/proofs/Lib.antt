@@ -40,6 +40,7 @@ pub mod FinishSettled
 pub mod FinishEnd
 pub mod FinishFacts
 pub mod FinishShown
+pub mod FinishStands
 pub mod StandsStep
 pub mod KeepsOrder
 pub mod Empty
