@@ -181,14 +181,14 @@ module _ {C K : Type 0} (lib : Meanings C K) (arity : C → ℕ) (control : Cont
 
 -- ---- Copies and registers
 
-uncollected_number : {G : Type 0} (caller n : ℕ) (a : Ask G Ref) → is_uncollected caller n a ≡ true → a.number ≡ n
+pub uncollected_number : {G : Type 0} (caller n : ℕ) (a : Ask G Ref) → is_uncollected caller n a ≡ true → a.number ≡ n
 uncollected_number caller n a is = same_from_test a.number n (both_right (is_of caller a) (nat_eq a.number n) (both_left (is_of caller a && nat_eq a.number n) (is_some a.delivered) is))
 
-both_true : (a b : Bool) → a ≡ true → b ≡ true → (a && b) ≡ true
+pub both_true : (a b : Bool) → a ≡ true → b ≡ true → (a && b) ≡ true
 both_true true b p q = q
 both_true false b p q = absurd (let clash : false ≡ true = p in cc)
 
-false_or : (b : Bool) → (b ≡ true → ⊥) → b ≡ false
+pub false_or : (b : Bool) → (b ≡ true → ⊥) → b ≡ false
 false_or true never = absurd (never refl)
 false_or false never = refl
 
@@ -199,7 +199,7 @@ is_caller_of caller (Body body) is = absurd (let clash : false ≡ true = is in 
 
 module _ {C K : Type 0} (lib : Meanings C K) (arity : C → ℕ) (control : Control C (Unit {0}) K) (orderly : IsOrderly arity control) where
   -- a new number is no output's
-  no_output : (n : ℕ) (holder : Holder) → control.drawn < n → is_output control.asks n holder ≡ false
+  pub no_output : (n : ℕ) (holder : Holder) → control.drawn < n → is_output control.asks n holder ≡ false
   no_output n (Caller caller) high =
       false_or (list_any (is_uncollected caller n) (map.values control.asks)) (λ is.
       let one = any_to (is_uncollected caller n) control.asks is in
@@ -210,13 +210,15 @@ module _ {C K : Type 0} (lib : Meanings C K) (arity : C → ℕ) (control : Cont
   no_output n (Body body) high = refl
 
   -- what a caller holds, in the names and in the state that is stood for
-  record IsMine (caller : ℕ) (id : Id) : Type 0 where
+  pub record IsMine (caller : ℕ) (id : Id) : Type 0 where
     pub entry : IdRecord
     pub named : record_of control.names id ≡ Some entry
     pub there : id_at control.names id.number ≡ Some entry
+    pub holder : entry.holder ≡ Caller caller
+    pub fresh : list_any (is_uncollected caller id.number) (map.values control.asks) ≡ false
     pub held : map.get (machine_of lib control).holdings id.number ≡ Some (record { caller = caller; owner = id.owner; tree = body_tree control.names entry.body })
 
-  mine_of : (caller : ℕ) (id : Id) → is_mine (forgotten arity control) caller id ≡ true → IsMine caller id
+  pub mine_of : (caller : ℕ) (id : Id) → is_mine (forgotten arity control) caller id ≡ true → IsMine caller id
   mine_of caller id is =
       elim (none_or_some (record_of control.names id)) [
         | inl none ↦ absurd (let clash : false ≡ true = sym (ap (is_callers (forgotten arity control) caller id) none) ∙ is in cc)
@@ -233,11 +235,13 @@ module _ {C K : Type 0} (lib : Meanings C K) (arity : C → ℕ) (control : Cont
               entry = some.0;
               named = some.1;
               there = at.0;
+              holder = holder;
+              fresh = fresh;
               held = chosen_to (held_shown control.asks control.names) control.names.ids id.number some.0 _ at.0 shown;
             }
       ]
 
-  mine_held : (caller : ℕ) (id : Id) (mine_it : IsMine caller id)
+  pub mine_held : (caller : ℕ) (id : Id) (mine_it : IsMine caller id)
       → held_by (machine_of lib control) caller id ≡ Some (record { caller = caller; owner = id.owner; tree = body_tree control.names mine_it.entry.body })
   mine_held caller id mine_it =
       ap (mine caller id.owner) mine_it.held
@@ -300,7 +304,7 @@ module _ {C K : Type 0} (lib : Meanings C K) (arity : C → ℕ) (control : Cont
       (((first.0.0, rest.0.0), (first.0.1, rest.0.1)), λ i. head i ∷ tail i)
 
   -- a body that a register does not make was there
-  old_body : (caller : ℕ) (content : C) (children : List Ref) (q : ℕ) → (q ≡ control.drawn + 1 → ⊥) → IsSome (body_at (names.registered control.names control.drawn (Caller caller) 0 content children) q)
+  pub old_body : (caller : ℕ) (content : C) (children : List Ref) (q : ℕ) → (q ≡ control.drawn + 1 → ⊥) → IsSome (body_at (names.registered control.names control.drawn (Caller caller) 0 content children) q)
       → IsSome (body_at control.names q)
   old_body caller content children q apart some =
       let new_body : BodyRecord C = record { owner = 0; content = content; children = numbered (control.drawn + 2) children } in

@@ -25,10 +25,14 @@ pub mod Stopping
 pub mod Forgets
 pub mod Stand
 pub mod Orderly
+pub mod Ordered
+pub mod Fewer
 pub mod Grow
 pub mod Linking
 pub mod AskedFor
 pub mod AskStands
+pub mod AskOrdered
+pub mod Leaving
 pub mod StandsStep
 pub mod KeepsOrder
 pub mod Empty
