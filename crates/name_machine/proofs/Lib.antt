@@ -33,6 +33,8 @@ pub mod AskedFor
 pub mod AskStands
 pub mod AskOrdered
 pub mod Leaving
-pub mod StandsStep
 pub mod KeepsOrder
+pub mod FewerStand
+pub mod CollectStands
+pub mod StandsStep
 pub mod Empty
