@@ -38,3 +38,4 @@ pub mod FewerStand
 pub mod CollectStands
 pub mod StandsStep
 pub mod Empty
+pub mod ComesOn
