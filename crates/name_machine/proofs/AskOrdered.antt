@@ -1,6 +1,5 @@
 -- An ask leaves a control state in order.
-use Rattle.std.proofs.Common.{◌≡◌, ℕ, zero, suc, ◌+◌, ◌<◌, ◌≤◌, ◌⊎◌, inl, inr, List, [], ◌∷◌, map as each, slice_get, Option, None, Some, refl, sym, ap, subst, ◌∙◌, arith}
-use Rattle.std.specs.Option.{option_map}
+use Rattle.std.proofs.Common.{◌≡◌, ℕ, zero, suc, ◌+◌, ◌<◌, ◌≤◌, ◌⊎◌, inl, inr, List, [], ◌∷◌, map as each, slice_get, None, Some, refl, sym, ap, subst, ◌∙◌, arith}
 use Rattle.std.specs.FinMap as map
 use Rattle.cht_ids.specs.declared.refs.Id.{Id}
 use Rattle.cht_ids.specs.declared.refs.Ref.{Ref}
@@ -8,16 +7,16 @@ use Rattle.cht_ids.specs.declared.refs.Ref.TheVariants.{Null, Id as Held}
 use Rattle.name_states.specs.declared.holder.Holder.{Holder}
 use Rattle.name_states.specs.declared.holder.Holder.TheVariants.{Caller, Task}
 use Rattle.name_states.specs.States.{NameState, IdRecord, id_at, AreLive}
-use Rattle.name_states.specs.Steps.{present, drawn_by, numbered_ref, numbered, linked}
+use Rattle.name_states.specs.Steps.{present, numbered, linked}
 use Rattle.name_states.specs.Rules.{AreWithin}
 use Rattle.name_states.proofs.Basics.{none_not_some, same_some, same_or_not, inserted_here, inserted_other, inserted_from}
 use Rattle.name_states.proofs.Within.{AreMore, within-more, unnamed-next}
 use Rattle.name_states.proofs.Copies.{AreCopies, linked-copies, linked-from, linked-within}
-use Rattle.task_states.specs.States.{Input, Known, Awaits, Unfinished, Graph, task_at, input_at}
-use Rattle.task_states.specs.Steps.{added, with_asked}
+use Rattle.task_states.specs.States.{Input, Known, Awaits, Unfinished, task_at, input_at}
+use Rattle.task_states.specs.Steps.{added}
 use Rattle.name_machine.specs.States.{Ask}
 use Rattle.name_machine.specs.Control.{Control, ask_event}
-use Rattle.name_machine.specs.Standing.{HasNoOutput, HasNumber, IsRefOf, IsInputOf, AwaitsUnder, IsOrderly}
+use Rattle.name_machine.specs.Standing.{IsRefOf, AwaitsUnder, IsOrderly}
 use Rattle.name_machine.proofs.Linking.{sound_linked, more_linked, reached_linked}
 use Rattle.name_machine.proofs.Orderly.{entry_held, ref_kept}
 use Rattle.name_machine.proofs.Ordered.{none_if, input_in, inputs_unchanged, input_from}

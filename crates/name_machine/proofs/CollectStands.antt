@@ -1,30 +1,30 @@
 -- A collect of a control state is the machine's.
-use Rattle.std.proofs.Common.{◌≡◌, ℕ, ◌⊎◌, inl, inr, Bool, true, false, cond, not, ◌&&◌, nat_eq, nat_cmp, List, map as each, Option, None, Some, is_some, refl, sym, ap, subst, ◌∙◌}
+use Rattle.std.proofs.Common.{◌≡◌, ℕ, inl, inr, Bool, true, false, cond, not, nat_eq, nat_cmp, List, map as each, Option, None, Some, refl, sym, ap, subst, ◌∙◌}
 use Rattle.std.specs.Option.{option_map}
 use Rattle.std.specs.List.{list_any}
 use Rattle.std.specs.FinMap as map
 use Rattle.cht_ids.specs.declared.refs.Id.{Id}
 use Rattle.cht_ids.specs.declared.refs.Ref.{Ref}
 use Rattle.cht_ids.specs.declared.refs.Ref.TheVariants.{Null, Id as Held}
-use Rattle.task_types.specs.Tree.{Tree, Nothing, rooted}
+use Rattle.task_types.specs.Tree.{Tree, rooted}
 use Rattle.task_types.specs.Meanings.{Meanings}
 use Rattle.task_types.proofs.FormedTest.{both_left, both_right}
 use Rattle.name_states.specs.declared.holder.Holder.{Holder}
 use Rattle.name_states.specs.declared.holder.Holder.TheVariants.{Caller, Task, Body}
-use Rattle.name_states.specs.States.{NameState, IdRecord, BodyRecord, id_at, body_at, record_of}
+use Rattle.name_states.specs.States.{IdRecord, BodyRecord, id_at, body_at}
 use Rattle.name_states.specs.Trees.{tree_named, led_to, grown, tree_within, body_tree, tree_of}
-use Rattle.name_states.proofs.Basics.{none_not_some, none_or_some, same_some, same_or_not, same_options, same_from_test, inserted_here, inserted_other, inserted_from, removed_here, removed_from, removed_other}
+use Rattle.name_states.proofs.Basics.{none_not_some, same_some, same_or_not, same_options, same_from_test, inserted_here, inserted_other, inserted_from, removed_from, removed_other}
 use Rattle.name_states.proofs.Within.{number-naming}
 use Rattle.task_states.specs.Maps.{chosen}
 use Rattle.task_states.specs.States.{is_stopped}
 use Rattle.task_states.proofs.Maps.{same_maps}
 use Rattle.cht_history.specs.declared.event.Event.TheVariants.{Collect}
-use Rattle.name_machine.specs.States.{Machine, Holding, Ask, is_of}
+use Rattle.name_machine.specs.States.{Machine, Holding, Ask}
 use Rattle.name_machine.specs.Steps.{handed, holding_more, collected}
 use Rattle.name_machine.specs.Facts.{HoldsTogether}
 use Rattle.name_machine.specs.Machine.{IsAnswer, owner_of, Collects}
 use Rattle.name_machine.specs.Control.{Control, tidied, is_uncollected, collect_event}
-use Rattle.name_machine.specs.Replay.{Plans, is_id, same_ref, delivered_is, is_delivered, is_allowed}
+use Rattle.name_machine.specs.Replay.{Plans, same_ref, delivered_is, is_delivered, is_allowed}
 use Rattle.name_machine.specs.Forgetting.{forgotten}
 use Rattle.name_machine.specs.Standing.{HasNoOutput, graph_shown, is_output, holding_shown, held_shown, ask_shown, machine_of, IsOrderly}
 use Rattle.name_machine.proofs.Values.{any_from, any_to}
@@ -33,9 +33,7 @@ use Rattle.name_machine.proofs.Stand.{not_true}
 use Rattle.name_machine.proofs.Grow.{false_or, uncollected_number}
 use Rattle.name_machine.proofs.Orderly.{held_entry}
 use Rattle.name_machine.proofs.Ordered.{tidied_still}
-use Rattle.name_machine.proofs.Leaving.{uncollected_caller}
 use Rattle.name_machine.proofs.KeepsOrder.{asks_differ}
-use Rattle.name_machine.proofs.FewerStand.{shown_by}
 
 same_bools : (a b : Bool) → (a ≡ true → b ≡ true) → (b ≡ true → a ≡ true) → a ≡ b
 same_bools true b to back = sym (to refl)

@@ -1,5 +1,5 @@
 -- A control state and the events that led to it.
-use Rattle.std.proofs.Common.{◌≡◌, ℕ, true, nat_cmp, List, [], ◌∷◌, ◌++◌, map as each, Option, None, Some, refl, sym, ap, subst, ◌∙◌}
+use Rattle.std.proofs.Common.{◌≡◌, ℕ, nat_cmp, List, [], ◌∷◌, ◌++◌, Option, None, Some, refl, sym, ap, subst, ◌∙◌}
 use Rattle.std.specs.Option.{option_map, option_and_then}
 use Rattle.std.specs.FinMap as map
 use Rattle.task_types.specs.Meanings.{Meanings}
@@ -16,7 +16,7 @@ use Rattle.name_machine.specs.Control.{no_control}
 use Rattle.name_machine.specs.Replay.{Plans, Replayed, happens, replay_from}
 use Rattle.name_machine.specs.Forgetting.{forgotten}
 use Rattle.name_machine.specs.Standing.{machine_of}
-use Rattle.name_machine.specs.Laws.{ComesOf, OpeningComesOfNone, EventsLeadOn}
+use Rattle.name_machine.specs.Laws.{OpeningComesOfNone, EventsLeadOn}
 use Rattle.name_machine.proofs.Runs.{facts_hold}
 use Rattle.name_machine.proofs.Forgets.{forgetting_replays}
 use Rattle.name_machine.proofs.Stand.{opening_stands}

@@ -1,13 +1,13 @@
 -- Names without some identifiers that callers and tasks hold, before and after a sweep.
-use Rattle.std.proofs.Common.{◌≡◌, ℕ, Bool, true, false, cond, not, Option, None, Some, refl, sym, ap, subst, ◌∙◌}
+use Rattle.std.proofs.Common.{◌≡◌, ℕ, Bool, false, cond, not, Option, None, Some, sym, ap, subst, ◌∙◌}
 use Rattle.std.specs.FinMap as map
 use Rattle.name_states.specs.declared.holder.Holder.{Holder}
-use Rattle.name_states.specs.declared.holder.Holder.TheVariants.{Caller, Task, Body}
-use Rattle.name_states.specs.States.{NameState, IdRecord, BodyRecord, id_at, body_at}
+use Rattle.name_states.specs.declared.holder.Holder.TheVariants.{Body}
+use Rattle.name_states.specs.States.{NameState, IdRecord, id_at}
 use Rattle.name_states.specs.Steps.{IsOutside}
-use Rattle.name_states.specs.Reached.{IsHeldUp, swept}
+use Rattle.name_states.specs.Reached.{swept}
 use Rattle.name_states.specs.Rules.{IsSound, AreReached}
-use Rattle.name_states.proofs.Basics.{none_not_some, get_retained}
+use Rattle.name_states.proofs.Basics.{get_retained}
 use Rattle.name_states.proofs.Reaching.{sound-down, up_from_outside}
 use Rattle.name_states.proofs.Swept.{cond-some, id-left, id-kept, body-left}
 use Rattle.name_states.proofs.SweptOnce.{all-reached-swept, sound-swept}

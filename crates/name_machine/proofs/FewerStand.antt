@@ -1,5 +1,5 @@
 -- A delete and an abandon of a control state are the machine's.
-use Rattle.std.proofs.Common.{◌≡◌, ℕ, ◌≤◌, inl, inr, Bool, true, false, cond, not, ◌&&◌, nat_eq, nat_cmp, List, [], ◌∷◌, Option, None, Some, is_some, refl, sym, ap, subst, ◌∙◌, arith}
+use Rattle.std.proofs.Common.{◌≡◌, ℕ, inl, inr, Bool, true, false, cond, not, ◌&&◌, nat_eq, nat_cmp, Option, None, Some, is_some, refl, sym, ap, subst, ◌∙◌, arith}
 use Rattle.std.specs.Option.{option_map}
 use Rattle.std.specs.List.{list_any}
 use Rattle.std.specs.FinMap as map
@@ -14,16 +14,16 @@ use Rattle.name_states.specs.declared.holder.Holder.TheVariants.{Caller, Task, B
 use Rattle.name_states.specs.States.{NameState, IdRecord, id_at}
 use Rattle.name_states.specs.Reached.{swept}
 use Rattle.name_states.specs.Trees.{tree_of}
-use Rattle.name_states.proofs.Basics.{none_not_some, none_or_some, same_some, same_options, same_from_test, test_same, removed_from, removed_other}
+use Rattle.name_states.proofs.Basics.{none_not_some, same_some, same_options, same_from_test, removed_from, removed_other}
 use Rattle.name_states.proofs.Swept.{id-left}
 use Rattle.name_states.proofs.Within.{AreMore}
 use Rattle.task_states.specs.declared.states.TaskStatus.TheVariants.{Waiting, Ready, Running}
 use Rattle.task_states.specs.Maps.{chosen, kept}
-use Rattle.task_states.specs.States.{Unfinished, Graph, task_at, input_at, is_running, status_of, is_run_for, running}
+use Rattle.task_states.specs.States.{Unfinished, Graph, task_at, input_at, is_running, is_run_for, running}
 use Rattle.task_states.specs.Steps.{abandoned}
 use Rattle.task_states.proofs.Maps.{same_maps, get-kept}
 use Rattle.cht_history.specs.declared.event.Event.TheVariants.{Abandon}
-use Rattle.name_machine.specs.States.{Machine, Holding, Ask, is_of, has_ask}
+use Rattle.name_machine.specs.States.{Holding, Ask, is_of, has_ask}
 use Rattle.name_machine.specs.Steps.{gave_up, deleted}
 use Rattle.name_machine.specs.Goals.{goal_within}
 use Rattle.name_machine.specs.Facts.{HasLevels, AwaitsOwn, HoldsTogether}
@@ -44,7 +44,7 @@ use Rattle.name_machine.proofs.Orderly.{output_holder}
 use Rattle.name_machine.proofs.Ordered.{input_from}
 use Rattle.name_machine.proofs.Fewer.{left_at}
 use Rattle.name_machine.proofs.Leaving.{task_was, task_stays, left, ask_was, ask_stays, uncollected_caller}
-use Rattle.name_machine.proofs.KeepsOrder.{test_false, asks_differ, deleting, deleting_sound, deleting_fewer, deleting_stays, delete_order, leaving, leaving_fewer, leaving_stays, not_its_output, abandon_order}
+use Rattle.name_machine.proofs.KeepsOrder.{deleting, deleting_fewer, deleting_stays, delete_order, leaving, leaving_fewer, leaving_stays, abandon_order}
 
 -- what is shown of an identifier is a caller's, and no output
 pub shown_by : {C G : Type 0} (asks : map.FinMap nat_cmp (Ask G Ref)) (names : NameState C) (q : ℕ) (e : IdRecord) (holder : Holder) (h : Holding C)

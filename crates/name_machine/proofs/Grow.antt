@@ -29,7 +29,7 @@ use Rattle.task_states.specs.Maps.{chosen}
 use Rattle.task_states.specs.States.{Input, Known, Awaits, Unfinished, Graph, task_at}
 use Rattle.task_states.proofs.Maps.{same_maps}
 use Rattle.cht_history.specs.declared.event.Event.TheVariants.{Register, Copy}
-use Rattle.name_machine.specs.States.{Machine, Holding, Ask, MayMention, MayMentionAll, is_of, mine, held_by, tree_of_holding}
+use Rattle.name_machine.specs.States.{Holding, Ask, MayMention, MayMentionAll, is_of, mine, held_by, tree_of_holding}
 use Rattle.name_machine.specs.States as machine
 use Rattle.name_machine.specs.Machine.{Copies, Registers}
 use Rattle.name_machine.specs.Replay.{Plans, is_id, is_caller, is_callers, is_mine, may_mention, is_allowed}

@@ -1,17 +1,17 @@
 -- Each event leaves a control state in order, and the opening state is.
-use Rattle.std.proofs.Common.{◌≡◌, ℕ, ◌+◌, ◌<◌, ◌≤◌, ◌⊎◌, inl, inr, Bool, true, false, cond, not, ◌&&◌, nat_eq, nat_le, nat_cmp, List, [], ◌∷◌, length, Option, None, Some, is_some, IsSome, refl, sym, ap, subst, ◌∙◌, arith}
+use Rattle.std.proofs.Common.{◌≡◌, ℕ, ◌+◌, ◌≤◌, inl, inr, true, false, not, ◌&&◌, nat_eq, nat_le, nat_cmp, List, [], ◌∷◌, length, Option, None, Some, is_some, IsSome, refl, sym, ap, subst, ◌∙◌, arith}
 use Rattle.std.specs.Option.{option_map}
 use Rattle.std.specs.List.{list_all, list_any}
 use Rattle.std.specs.FinMap as map
 use Rattle.cht_ids.specs.declared.refs.Id.{Id}
 use Rattle.cht_ids.specs.declared.refs.Ref.{Ref}
-use Rattle.cht_ids.specs.declared.refs.Ref.TheVariants.{Null, Id as Held}
+use Rattle.cht_ids.specs.declared.refs.Ref.TheVariants.{Id as Held}
 use Rattle.task_types.specs.Tree.{Tree}
 use Rattle.task_types.specs.Meanings.{Meanings}
 use Rattle.task_types.proofs.FormedTest.{both_left, both_right}
 use Rattle.name_states.specs.declared.holder.Holder.{Holder}
 use Rattle.name_states.specs.declared.holder.Holder.TheVariants.{Caller, Task, Body}
-use Rattle.name_states.specs.States.{NameState, IdRecord, id_at, body_at, AreLive}
+use Rattle.name_states.specs.States.{NameState, IdRecord, id_at, AreLive}
 use Rattle.name_states.specs.Rules.{IsSound, AreReached, AreWithin}
 use Rattle.name_states.specs.Reached.{IsReached, Outside, swept}
 use Rattle.name_states.specs.Steps.{present, numbered}
@@ -22,25 +22,24 @@ use Rattle.name_states.proofs.Copies.{copied-from, bodies-with_copy}
 use Rattle.name_states.proofs.Sound.{sound-copied, sound-registered, sound-without, sound-none, new-naming, more-registered, naming-from, registered-within}
 use Rattle.name_states.proofs.Reaching.{reached-more}
 use Rattle.name_states.proofs.Swept.{id-left}
-use Rattle.task_states.specs.Maps.{kept}
 use Rattle.task_states.specs.States.{Input, Known, Awaits, Unfinished, Graph, task_at, input_at, caller_of, is_stopped, no_tasks}
 use Rattle.task_states.specs.Steps.{abandoned, with_stopped, started, given_back}
 use Rattle.cht_history.specs.declared.event.Event.TheVariants.{Register, Copy, Delete, Ask as AskEvent, Collect, Abandon, Stop, Start, GiveBack, Finish}
-use Rattle.name_machine.specs.States.{Ask, is_of}
+use Rattle.name_machine.specs.States.{Ask}
 use Rattle.name_machine.specs.Facts.{HoldsTogether}
-use Rattle.name_machine.specs.Control.{Control, no_control, tidied, is_uncollected, is_task_of, goes_from, goes_with, without_ids, copy_event, register_event, after_register, delete_event, ask_event, collect_event, abandon_event}
+use Rattle.name_machine.specs.Control.{Control, tidied, is_uncollected, is_task_of, goes_from, goes_with, without_ids, copy_event, register_event, after_register, delete_event, ask_event, collect_event, abandon_event}
 use Rattle.name_machine.specs.Replay.{Plans, is_id, is_mine, may_mention, is_allowed}
 use Rattle.name_machine.specs.Forgetting.{forgotten}
-use Rattle.name_machine.specs.Standing.{HasNumber, task_shown, graph_shown, ask_shown, machine_of, IsOrderly}
+use Rattle.name_machine.specs.Standing.{task_shown, graph_shown, ask_shown, machine_of, IsOrderly}
 use Rattle.name_machine.specs.Laws.{KeepsOrder, OpeningIsOrderly}
 use Rattle.name_machine.proofs.Values.{any_from, any_to}
 use Rattle.name_machine.proofs.Ends.{inputs_at}
 use Rattle.name_machine.proofs.Works.{chosen_to}
-use Rattle.name_machine.proofs.Stand.{shown_at, not_true}
+use Rattle.name_machine.proofs.Stand.{shown_at}
 use Rattle.name_machine.proofs.Grow.{IsMine, mine_of, may_all, old_body, false_or, uncollected_number}
 use Rattle.name_machine.proofs.Ordered.{input_from, inputs_unchanged, order_same, order_grown, order_left, tidied_still}
 use Rattle.name_machine.proofs.Fewer.{left_at, stays_at, sound_without_ids, swept_sound, swept_reached, swept_fewer, outside_stays}
-use Rattle.name_machine.proofs.Leaving.{task_was, task_stays, left, ask_was, ask_stays, uncollected_is, uncollected_caller}
+use Rattle.name_machine.proofs.Leaving.{task_was, task_stays, left, ask_was, uncollected_is, uncollected_caller}
 use Rattle.name_machine.proofs.AskOrdered.{numbered_above, ask_order}
 
 pub opening_is_orderly : {C : Type 0} (K : Type 0) (arity : C → ℕ) → OpeningIsOrderly K arity

@@ -1,5 +1,5 @@
 -- What is left where a caller gives up, of tasks and asks of any kind; and outputs that were not collected.
-use Rattle.std.proofs.Common.{◌≡◌, ℕ, inl, inr, Bool, true, false, cond, not, ◌&&◌, nat_eq, nat_cmp, Option, None, Some, is_some, refl, sym, ap, ◌∙◌}
+use Rattle.std.proofs.Common.{◌≡◌, ℕ, true, false, not, ◌&&◌, nat_eq, nat_cmp, Some, is_some, sym, ap, ◌∙◌}
 use Rattle.std.specs.FinMap as map
 use Rattle.cht_ids.specs.declared.refs.Ref.{Ref}
 use Rattle.task_types.proofs.FormedTest.{both_left}

@@ -8,7 +8,7 @@ use Rattle.task_types.proofs.FormedTest.{both_right}
 use Rattle.name_states.specs.declared.holder.Holder.{Holder}
 use Rattle.name_states.specs.declared.holder.Holder.TheVariants.{Caller, Task, Body}
 use Rattle.name_states.specs.States.{NameState, IdRecord, id_at, record_of, owned_by, AreLive}
-use Rattle.name_states.specs.Steps.{IsOutside, present, numbered, drawn_by, linked, linked_ref}
+use Rattle.name_states.specs.Steps.{IsOutside, numbered, linked}
 use Rattle.name_states.specs.Steps as names
 use Rattle.name_states.specs.Rules.{IsSound, AreReached, AreWithin}
 use Rattle.name_states.specs.Trees.{tree_named, body_tree, tree_of}

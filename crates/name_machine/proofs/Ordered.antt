@@ -1,11 +1,10 @@
 -- A control state stays in order where its tasks keep their inputs, where names grow, and where names, tasks and asks go.
-use Rattle.std.proofs.Common.{◌≡◌, ℕ, ◌<◌, ◌≤◌, ◌⊎◌, inl, inr, nat_cmp, slice_get, Option, None, Some, is_some, IsSome, refl, sym, ap, subst, ◌∙◌, arith}
+use Rattle.std.proofs.Common.{◌≡◌, ℕ, ◌<◌, ◌≤◌, ◌⊎◌, inl, inr, nat_cmp, slice_get, Option, None, Some, is_some, refl, sym, ap, ◌∙◌, arith}
 use Rattle.std.specs.Option.{option_map}
 use Rattle.std.specs.FinMap as map
 use Rattle.cht_ids.specs.declared.refs.Id.{Id}
 use Rattle.cht_ids.specs.declared.refs.Ref.{Ref}
-use Rattle.cht_ids.specs.declared.refs.Ref.TheVariants.{Null, Id as Held}
-use Rattle.name_states.specs.declared.holder.Holder.{Holder}
+use Rattle.cht_ids.specs.declared.refs.Ref.TheVariants.{Id as Held}
 use Rattle.name_states.specs.declared.holder.Holder.TheVariants.{Caller, Task}
 use Rattle.name_states.specs.States.{NameState, IdRecord, id_at, body_at}
 use Rattle.name_states.specs.Rules.{IsSound, AreReached, AreWithin}
@@ -16,7 +15,7 @@ use Rattle.task_states.specs.States.{Input, Known, Awaits, Unfinished, Graph, ta
 use Rattle.task_states.specs.Steps.{with_task}
 use Rattle.name_machine.specs.States.{Ask}
 use Rattle.name_machine.specs.Control.{Control, tidied}
-use Rattle.name_machine.specs.Standing.{HasNoOutput, IsRefOf, AwaitsUnder, IsOrderly}
+use Rattle.name_machine.specs.Standing.{IsOrderly}
 use Rattle.name_machine.proofs.Tasks.{changed_here, changed_other}
 use Rattle.name_machine.proofs.Orderly.{ref_kept}
 

@@ -1,5 +1,5 @@
 -- What a control state in order tells.
-use Rattle.std.proofs.Common.{◌≡◌, ℕ, ◌≤◌, inl, inr, slice_get, Option, None, Some, is_some, IsSome, true, refl, sym, ap, subst, ◌∙◌}
+use Rattle.std.proofs.Common.{◌≡◌, ℕ, ◌≤◌, inl, inr, slice_get, Option, None, Some, is_some, IsSome, true, sym, ap, subst, ◌∙◌}
 use Rattle.std.specs.Option.{option_map}
 use Rattle.std.specs.FinMap as map
 use Rattle.cht_ids.specs.declared.refs.Id.{Id}
@@ -7,10 +7,10 @@ use Rattle.cht_ids.specs.declared.refs.Ref.{Ref}
 use Rattle.cht_ids.specs.declared.refs.Ref.TheVariants.{Null, Id as Held}
 use Rattle.name_states.specs.declared.holder.Holder.{Holder}
 use Rattle.name_states.specs.declared.holder.Holder.TheVariants.{Caller, Task}
-use Rattle.name_states.specs.States.{NameState, IdRecord, id_at, record_of, holder_of, IsLiveRef}
+use Rattle.name_states.specs.States.{NameState, IdRecord, id_at, record_of, IsLiveRef}
 use Rattle.name_states.proofs.Basics.{none_not_some, none_or_some, some_value, same_some}
 use Rattle.name_states.proofs.Within.{naming-number, number-naming}
-use Rattle.task_states.specs.States.{Input, Known, Unfinished, task_at, input_at}
+use Rattle.task_states.specs.States.{Input, Known, Unfinished, task_at}
 use Rattle.name_machine.specs.States.{Ask}
 use Rattle.name_machine.specs.Control.{Control}
 use Rattle.name_machine.specs.Standing.{HasNoOutput, IsRefOf, IsOrderly}
