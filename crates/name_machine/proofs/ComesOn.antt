@@ -34,7 +34,7 @@ module _ {K : Type 0} (plans : Plans K) where
       → replay_from plans control (events ++ event ∷ []) ≡ Some last
   replay_more control mid last [] event is next =
       ap (λ c. option_and_then (λ (n : Replayed K). Some n) (happens plans c event)) (same_some control mid is) ∙ ap (option_and_then (λ (n : Replayed K). Some n)) next
-  replay_more control mid last (first ∷ events) event is next = 
+  replay_more control mid last (first ∷ events) event is next =
       after_first (λ n. replay_from plans n events) (λ n. replay_from plans n (events ++ event ∷ [])) mid last (λ c some. replay_more c mid last events event some next) (happens plans control first) is
 
 module _ {C K : Type 0} (lib : Meanings C K) (arity : C → ℕ) where

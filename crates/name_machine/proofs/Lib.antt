@@ -39,3 +39,5 @@ pub mod CollectStands
 pub mod StandsStep
 pub mod Empty
 pub mod ComesOn
+pub mod Listed
+pub mod Exampling

@@ -2,6 +2,7 @@
 //! `specs/Laws.antt` states.
 
 ghost use Rattle.std.specs.Prelude.{ℕ};
+ghost use Rattle.name_machine.specs.Example.{TakesExample};
 ghost use Rattle.name_machine.specs.Forgetting.{ForgettingReplays};
 ghost use Rattle.name_machine.specs.Replay.{Plans};
 ghost use Rattle.name_machine.specs.Laws.{AccountsChange, LeavesCallers, LeavesWorkers, FactsHold, StopsAreLast, StopsEnd, FinishedOnce, RefusesStrange, DeadIsStrange, OthersAreStrange, UncollectedIsStrange, RefusesOutOfTurn, RefusesNotReady, RefusesSecondStart, RefusesUnplanned, OpeningStands, EmptyBothWays, StandsStep, OpeningIsOrderly, KeepsOrder, OpeningComesOfNone, EventsLeadOn};
@@ -79,4 +80,10 @@ pub fn order<L: Library>()
 pub fn events_lead<L: Library>()
     ensures opening { (plans : Plans L.Kind) → OpeningComesOfNone L.meanings L.Chunk.arity plans }
     ensures steps { (plans : Plans L.Kind) → EventsLeadOn L.meanings L.Chunk.arity plans }
+{}
+
+/// A replay takes the eleven events of the worked example, whatever the plans are, so long as they allow the shape of
+/// the one finish; it has then drawn nine numbers, and nothing is left.
+pub fn takes_example<K>()
+    ensures { (plans : Plans K) → TakesExample plans }
 {}
