@@ -1,5 +1,5 @@
 -- A collect of a control state is the machine's.
-use Rattle.std.proofs.Common.{◌≡◌, ℕ, inl, inr, Bool, true, false, cond, not, nat_eq, nat_cmp, List, map as each, Option, None, Some, refl, sym, ap, subst, ◌∙◌}
+use Rattle.std.proofs.Common.{◌≡◌, ℕ, inl, inr, true, false, cond, not, nat_eq, nat_cmp, List, map as each, Option, None, Some, refl, sym, ap, subst, ◌∙◌}
 use Rattle.std.specs.Option.{option_map}
 use Rattle.std.specs.List.{list_any}
 use Rattle.std.specs.FinMap as map
@@ -31,14 +31,10 @@ use Rattle.name_machine.proofs.Values.{any_from, any_to}
 use Rattle.name_machine.proofs.Works.{chosen_from, chosen_to}
 use Rattle.name_machine.proofs.Stand.{not_true}
 use Rattle.name_machine.proofs.Grow.{false_or, uncollected_number}
+use Rattle.name_machine.proofs.Linking.{same_bools}
 use Rattle.name_machine.proofs.Orderly.{held_entry}
 use Rattle.name_machine.proofs.Ordered.{tidied_still}
 use Rattle.name_machine.proofs.KeepsOrder.{asks_differ}
-
-same_bools : (a b : Bool) → (a ≡ true → b ≡ true) → (b ≡ true → a ≡ true) → a ≡ b
-same_bools true b to back = sym (to refl)
-same_bools false true to back = back refl
-same_bools false false to back = refl
 
 -- two references that are the same by the test
 ref_same : (got r : Ref) → same_ref got r ≡ true → r ≡ got

@@ -1,5 +1,5 @@
 -- A delete and an abandon of a control state are the machine's.
-use Rattle.std.proofs.Common.{◌≡◌, ℕ, inl, inr, Bool, true, false, cond, not, ◌&&◌, nat_eq, nat_cmp, Option, None, Some, is_some, refl, sym, ap, subst, ◌∙◌, arith}
+use Rattle.std.proofs.Common.{◌≡◌, ℕ, inl, inr, true, false, cond, not, ◌&&◌, nat_eq, nat_cmp, Option, None, Some, is_some, refl, sym, ap, subst, ◌∙◌, arith}
 use Rattle.std.specs.Option.{option_map}
 use Rattle.std.specs.List.{list_any}
 use Rattle.std.specs.FinMap as map
@@ -40,6 +40,7 @@ use Rattle.name_machine.proofs.Empty.{none_in, no_len}
 use Rattle.name_machine.proofs.Stand.{shown_at, awaiting_shown, ask_shown_has}
 use Rattle.name_machine.proofs.Grow.{graph_grown, asks_grown, held_same, IsMine, mine_of, mine_held, false_or, uncollected_number}
 use Rattle.name_machine.proofs.AskedFor.{asked_is, added_same}
+use Rattle.name_machine.proofs.Linking.{same_bools}
 use Rattle.name_machine.proofs.Orderly.{output_holder}
 use Rattle.name_machine.proofs.Ordered.{input_from}
 use Rattle.name_machine.proofs.Fewer.{left_at}
@@ -229,11 +230,6 @@ module _ {C K : Type 0} (lib : Meanings C K) (arity : C → ℕ) (control : Cont
         let which : c ≡ caller = sym (uncollected_caller c q one.1 one.3) ∙ own in
         let clash : true ≡ false = sym is ∙ ap (λ m. list_any (is_uncollected m q) (map.values control.asks)) which ∙ none in
         cc)) one.3)
-      where
-        same_bools : (a b : Bool) → (a ≡ true → b ≡ true) → (b ≡ true → a ≡ true) → a ≡ b
-        same_bools true b to back = sym (to refl)
-        same_bools false true to back = back refl
-        same_bools false false to back = refl
 
     left_shown : (q : ℕ) (e : IdRecord) (c : ℕ) → e.holder ≡ Caller c → list_any (is_uncollected caller q) (map.values control.asks) ≡ false
         → held_shown rest_asks control.names q e ≡ held_shown control.asks control.names q e

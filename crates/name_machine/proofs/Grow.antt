@@ -254,6 +254,25 @@ module _ {C K : Type 0} (lib : Meanings C K) (arity : C → ℕ) (control : Cont
   tidied_grown : (drawn : ℕ) (more : NameState C) → IsSound arity more → AreReached more → tidied (record control { drawn = drawn; names = more }) ≡ record control { drawn = drawn; names = more }
   tidied_grown drawn more sound reached = ap (λ (n : NameState C). let c : Control C (Unit {0}) K = record control { drawn = drawn; names = n } in c) (nothing_goes arity more sound reached)
 
+  -- names that a copy or a register leaves: they are more, sound and reached
+  pub record Grows (more : NameState C) : Type 0 where
+    pub is_more : AreMore control.names more
+    pub sound : IsSound arity more
+    pub reached : AreReached more
+
+  pub copy_grows : (caller : ℕ) (from : Id) → IsMine caller from → Grows (names.copied control.names from.number (control.drawn + 1) (Caller caller))
+  copy_grows caller from its =
+      let n : ℕ = control.drawn + 1 in
+      let more : NameState C = names.copied control.names from.number n (Caller caller) in
+      let free : id_at control.names n ≡ None = unnamed-next control.names control.drawn n orderly.within (omega arith) in
+      let same_bodies : more.bodies ≡ control.names.bodies = bodies-with_copy control.names n (Caller caller) (id_at control.names from.number) in
+      let keeps = copied-keeps control.names from.number n (Caller caller) free in
+      record {
+        is_more = record { ids = keeps; bodies = λ q body is. ap (λ bodies. map.get bodies q) same_bodies ∙ is };
+        sound = sound-copied arity control.names from.number n (Caller caller) its.entry orderly.sound tt its.there free;
+        reached = λ q some. reached-more control.names more q keeps (orderly.reached q (subst (λ bodies. IsSome (map.get bodies q)) same_bodies some));
+      }
+
   pub copy_stands : (plans : Plans K) (caller : ℕ) (from to : Id) → HoldsTogether lib (machine_of lib control) → is_allowed plans (forgotten arity control) (Copy caller from to) ≡ true
       → Copies lib arity (machine_of lib control) (machine_of lib (tidied (copy_event control caller from))) caller from to
   copy_stands plans caller from to facts allowed =
@@ -263,15 +282,11 @@ module _ {C K : Type 0} (lib : Meanings C K) (arity : C → ℕ) (control : Cont
       let owner : to.owner ≡ from.owner = same_from_test to.owner from.owner (both_left (nat_eq to.owner from.owner) (nat_eq to.number n) to_is) in
       let number : to.number ≡ n = same_from_test to.number n (both_right (nat_eq to.owner from.owner) (nat_eq to.number n) to_is) in
       let more : NameState C = names.copied control.names from.number n (Caller caller) in
+      let grows = copy_grows caller from its in
       let free : id_at control.names n ≡ None = unnamed-next control.names control.drawn n orderly.within (omega arith) in
       let entry : IdRecord = record its.entry { holder = Caller caller } in
       let here : id_at more n ≡ Some entry = copied-here control.names from.number n (Caller caller) its.entry its.there in
-      let same_bodies : more.bodies ≡ control.names.bodies = bodies-with_copy control.names n (Caller caller) (id_at control.names from.number) in
-      let keeps = copied-keeps control.names from.number n (Caller caller) free in
-      let is_more : AreMore control.names more = record { ids = keeps; bodies = λ q body is. ap (λ bodies. map.get bodies q) same_bodies ∙ is } in
-      let sound : IsSound arity more = sound-copied arity control.names from.number n (Caller caller) its.entry orderly.sound tt its.there free in
-      let reached : AreReached more = λ q some. reached-more control.names more q keeps (orderly.reached q (subst (λ bodies. IsSome (map.get bodies q)) same_bodies some)) in
-      let body_same : body_tree more its.entry.body ≡ body_tree control.names its.entry.body = body-tree-kept arity control.names more orderly.sound is_more its.entry.body (ap is_some (orderly.sound.named from.number its.entry its.there).1) in
+      let body_same : body_tree more its.entry.body ≡ body_tree control.names its.entry.body = body-tree-kept arity control.names more orderly.sound grows.is_more its.entry.body (ap is_some (orderly.sound.named from.number its.entry its.there).1) in
       let owner_is : its.entry.owner ≡ from.owner = (naming-number control.names from its.entry its.named).1 in
       let h : Holding C = record { caller = caller; owner = to.owner; tree = body_tree control.names its.entry.body } in
       let shown : held_shown control.asks more n entry ≡ Some h =
@@ -282,8 +297,8 @@ module _ {C K : Type 0} (lib : Meanings C K) (arity : C → ℕ) (control : Cont
         held = mine_held caller from its;
         number = number;
         after_is =
-            ap (machine_of lib) (tidied_grown n more sound reached)
-            ∙ state_grown lib arity control orderly more is_more n n h (omega arith) facts.levels free (entry, here, shown)
+            ap (machine_of lib) (tidied_grown n more grows.sound grows.reached)
+            ∙ state_grown lib arity control orderly more grows.is_more n n h (omega arith) facts.levels free (entry, here, shown)
             (λ q e is. elim (copied-from control.names n (Caller caller) (id_at control.names from.number) q e is) [ inl old ↦ inl old | inr new ↦ inr (inl new.3) ]);
       }
 
@@ -304,7 +319,7 @@ module _ {C K : Type 0} (lib : Meanings C K) (arity : C → ℕ) (control : Cont
       (((first.0.0, rest.0.0), (first.0.1, rest.0.1)), λ i. head i ∷ tail i)
 
   -- a body that a register does not make was there
-  pub old_body : (caller : ℕ) (content : C) (children : List Ref) (q : ℕ) → (q ≡ control.drawn + 1 → ⊥) → IsSome (body_at (names.registered control.names control.drawn (Caller caller) 0 content children) q)
+  old_body : (caller : ℕ) (content : C) (children : List Ref) (q : ℕ) → (q ≡ control.drawn + 1 → ⊥) → IsSome (body_at (names.registered control.names control.drawn (Caller caller) 0 content children) q)
       → IsSome (body_at control.names q)
   old_body caller content children q apart some =
       let new_body : BodyRecord C = record { owner = 0; content = content; children = numbered (control.drawn + 2) children } in
@@ -312,6 +327,23 @@ module _ {C K : Type 0} (lib : Meanings C K) (arity : C → ℕ) (control : Cont
       let base : NameState C = names.with_id (names.with_body control.names (control.drawn + 1) new_body) (control.drawn + 2) entry in
       let bodies_are = bodies-linked base (control.drawn + 2) (Body (control.drawn + 1)) children in
       subst (λ o. IsSome o) (ap (λ bodies. map.get bodies q) bodies_are ∙ inserted_other control.names.bodies (control.drawn + 1) q new_body apart) some
+
+  pub register_grows : (caller : ℕ) (content : C) (children : List Ref) → length children ≡ arity content → AreLive control.names children
+      → Grows (names.registered control.names control.drawn (Caller caller) 0 content children)
+  register_grows caller content children many live =
+      let n : ℕ = control.drawn + 2 in
+      let more : NameState C = names.registered control.names control.drawn (Caller caller) 0 content children in
+      let entry : IdRecord = record { owner = 0; body = control.drawn + 1; holder = Caller caller } in
+      let here : id_at more n ≡ Some entry = new-naming control.names control.drawn (Caller caller) 0 content children orderly.within in
+      let is_more : AreMore control.names more = more-registered control.names control.drawn (Caller caller) 0 content children orderly.within in
+      record {
+        is_more = is_more;
+        sound = sound-registered arity control.names control.drawn (Caller caller) 0 content children orderly.sound orderly.within tt live many;
+        reached = λ q some. elim (same_or_not q (control.drawn + 1)) [
+          | inl same ↦ subst (IsReached more) (sym same) (Outside n entry here tt)
+          | inr apart ↦ reached-more control.names more q is_more.ids (orderly.reached q (old_body caller content children q apart some))
+        ];
+      }
 
   pub register_stands : (plans : Plans K) (caller : ℕ) (id : Id) (children : List Ref) (content : C) → length children ≡ arity content → HoldsTogether lib (machine_of lib control)
       → is_allowed plans (forgotten arity control) (Register caller id children) ≡ true
@@ -329,12 +361,7 @@ module _ {C K : Type 0} (lib : Meanings C K) (arity : C → ℕ) (control : Cont
       let free : id_at control.names n ≡ None = unnamed-next control.names control.drawn n orderly.within (omega arith) in
       let entry : IdRecord = record { owner = 0; body = control.drawn + 1; holder = Caller caller } in
       let here : id_at more n ≡ Some entry = new-naming control.names control.drawn (Caller caller) 0 content children orderly.within in
-      let is_more : AreMore control.names more = more-registered control.names control.drawn (Caller caller) 0 content children orderly.within in
-      let sound : IsSound arity more = sound-registered arity control.names control.drawn (Caller caller) 0 content children orderly.sound orderly.within tt live many in
-      let reached : AreReached more = λ q some. elim (same_or_not q (control.drawn + 1)) [
-        | inl same ↦ subst (IsReached more) (sym same) (Outside n entry here tt)
-        | inr apart ↦ reached-more control.names more q is_more.ids (orderly.reached q (old_body caller content children q apart some))
-      ] in
+      let grows = register_grows caller content children many live in
       let new_tree : body_tree more (control.drawn + 1) ≡ rooted content (each (tree_of control.names) children) =
       sym (ap (tree_named (body_tree more)) (ap (owned_by 0) here ∙ owned-same 0 entry refl))
       ∙ tree-registered arity control.names control.drawn (Caller caller) 0 content children orderly.sound orderly.within live in
@@ -350,8 +377,8 @@ module _ {C K : Type 0} (lib : Meanings C K) (arity : C → ℕ) (control : Cont
         all_children = many;
         number = number;
         after_is =
-            ap (machine_of lib) (tidied_grown drawn more sound reached)
-            ∙ state_grown lib arity control orderly more is_more drawn n h (omega arith) facts.levels free (entry, here, shown)
+            ap (machine_of lib) (tidied_grown drawn more grows.sound grows.reached)
+            ∙ state_grown lib arity control orderly more grows.is_more drawn n h (omega arith) facts.levels free (entry, here, shown)
             (λ q e is. elim (naming-from control.names control.drawn (Caller caller) 0 content children orderly.within live q e is) [
               | inl old ↦ inl old
               | inr other ↦ elim other [

@@ -1,5 +1,5 @@
 -- Each event leaves a control state in order, and the opening state is.
-use Rattle.std.proofs.Common.{◌≡◌, ℕ, ◌+◌, ◌≤◌, inl, inr, true, false, not, ◌&&◌, nat_eq, nat_le, nat_cmp, List, [], ◌∷◌, length, Option, None, Some, is_some, IsSome, refl, sym, ap, subst, ◌∙◌, arith}
+use Rattle.std.proofs.Common.{◌≡◌, ℕ, ◌+◌, ◌≤◌, inl, inr, true, false, not, ◌&&◌, nat_eq, nat_le, nat_cmp, List, [], ◌∷◌, length, Option, None, Some, is_some, refl, sym, ap, subst, ◌∙◌, arith}
 use Rattle.std.specs.Option.{option_map}
 use Rattle.std.specs.List.{list_all, list_any}
 use Rattle.std.specs.FinMap as map
@@ -12,15 +12,14 @@ use Rattle.task_types.proofs.FormedTest.{both_left, both_right}
 use Rattle.name_states.specs.declared.holder.Holder.{Holder}
 use Rattle.name_states.specs.declared.holder.Holder.TheVariants.{Caller, Task, Body}
 use Rattle.name_states.specs.States.{NameState, IdRecord, id_at, AreLive}
-use Rattle.name_states.specs.Rules.{IsSound, AreReached, AreWithin}
-use Rattle.name_states.specs.Reached.{IsReached, Outside, swept}
+use Rattle.name_states.specs.Rules.{IsSound, AreWithin}
+use Rattle.name_states.specs.Reached.{swept}
 use Rattle.name_states.specs.Steps.{present, numbered}
 use Rattle.name_states.specs.Steps as names
-use Rattle.name_states.proofs.Basics.{none_not_some, same_some, same_or_not, test_same, test_apart, removed_from, removed_other}
-use Rattle.name_states.proofs.Within.{AreMore, unnamed-next, within-more, within-copied, copied-keeps}
-use Rattle.name_states.proofs.Copies.{copied-from, bodies-with_copy}
-use Rattle.name_states.proofs.Sound.{sound-copied, sound-registered, sound-without, sound-none, new-naming, more-registered, naming-from, registered-within}
-use Rattle.name_states.proofs.Reaching.{reached-more}
+use Rattle.name_states.proofs.Basics.{none_not_some, same_some, test_same, test_apart, removed_from, removed_other}
+use Rattle.name_states.proofs.Within.{AreMore, within-more, within-copied}
+use Rattle.name_states.proofs.Copies.{copied-from}
+use Rattle.name_states.proofs.Sound.{sound-without, sound-none, naming-from, registered-within}
 use Rattle.name_states.proofs.Swept.{id-left}
 use Rattle.task_states.specs.States.{Input, Known, Awaits, Unfinished, Graph, task_at, input_at, caller_of, is_stopped, no_tasks}
 use Rattle.task_states.specs.Steps.{abandoned, with_stopped, started, given_back}
@@ -36,7 +35,7 @@ use Rattle.name_machine.proofs.Values.{any_from, any_to}
 use Rattle.name_machine.proofs.Ends.{inputs_at}
 use Rattle.name_machine.proofs.Works.{chosen_to}
 use Rattle.name_machine.proofs.Stand.{shown_at}
-use Rattle.name_machine.proofs.Grow.{IsMine, mine_of, may_all, old_body, false_or, uncollected_number}
+use Rattle.name_machine.proofs.Grow.{IsMine, mine_of, may_all, copy_grows, register_grows, false_or, uncollected_number}
 use Rattle.name_machine.proofs.Ordered.{input_from, inputs_unchanged, order_same, order_grown, order_left, tidied_still}
 use Rattle.name_machine.proofs.Fewer.{left_at, stays_at, sound_without_ids, swept_sound, swept_reached, swept_fewer, outside_stays}
 use Rattle.name_machine.proofs.Leaving.{task_was, task_stays, left, ask_was, uncollected_is, uncollected_caller}
@@ -98,15 +97,10 @@ module _ {C K : Type 0} (lib : Meanings C K) (arity : C → ℕ) (control : Cont
       let n : ℕ = control.drawn + 1 in
       let its = mine_of lib arity control orderly caller from (both_left (is_mine (forgotten arity control) caller from) (is_id from.owner n to) allowed) in
       let more : NameState C = names.copied control.names from.number n (Caller caller) in
-      let free : id_at control.names n ≡ None = unnamed-next control.names control.drawn n orderly.within (omega arith) in
-      let same_bodies : more.bodies ≡ control.names.bodies = bodies-with_copy control.names n (Caller caller) (id_at control.names from.number) in
-      let keeps = copied-keeps control.names from.number n (Caller caller) free in
-      let is_more : AreMore control.names more = record { ids = keeps; bodies = λ q body is. ap (λ bodies. map.get bodies q) same_bodies ∙ is } in
-      let sound : IsSound arity more = sound-copied arity control.names from.number n (Caller caller) its.entry orderly.sound tt its.there free in
-      let reached : AreReached more = λ q some. reached-more control.names more q keeps (orderly.reached q (subst (λ bodies. IsSome (map.get bodies q)) same_bodies some)) in
+      let grows = copy_grows lib arity control orderly caller from its in
       let within : AreWithin more n = within-copied control.names from.number n (Caller caller) n (within-more control.names control.drawn n orderly.within (omega arith)) (omega arith) in
-      subst (IsOrderly arity) (sym (tidied_still arity (copy_event control caller from) sound reached))
-      (order_grown arity control orderly n more (omega arith) sound reached within is_more
+      subst (IsOrderly arity) (sym (tidied_still arity (copy_event control caller from) grows.sound grows.reached))
+      (order_grown arity control orderly n more (omega arith) grows.sound grows.reached within grows.is_more
       (λ q e is. elim (copied-from control.names n (Caller caller) (id_at control.names from.number) q e is) [
         | inl old ↦ inl old
         | inr new ↦ (let high = new.3 in inr (omega arith, λ task held. caller_no_task caller task (sym (ap (λ (x : IdRecord). x.holder) new.2) ∙ held)))
@@ -115,22 +109,14 @@ module _ {C K : Type 0} (lib : Meanings C K) (arity : C → ℕ) (control : Cont
   register_order : (plans : Plans K) (caller : ℕ) (id : Id) (children : List Ref) (content : C) → length children ≡ arity content
       → is_allowed plans (forgotten arity control) (Register caller id children) ≡ true → IsOrderly arity (tidied (register_event control caller content children))
   register_order plans caller id children content many allowed =
-      let n : ℕ = control.drawn + 2 in
       let drawn : ℕ = control.drawn + 2 + present children in
       let front = nat_le (length children) 4 && list_all (may_mention (forgotten arity control) caller) children in
-      let mentioned = may_all lib arity control orderly caller children (both_right (nat_le (length children) 4) (list_all (may_mention (forgotten arity control) caller) children) (both_left front (is_id 0 n id) allowed)) in
+      let mentioned = may_all lib arity control orderly caller children (both_right (nat_le (length children) 4) (list_all (may_mention (forgotten arity control) caller) children) (both_left front (is_id 0 (control.drawn + 2) id) allowed)) in
       let live : AreLive control.names children = mentioned.0.1 in
       let more : NameState C = names.registered control.names control.drawn (Caller caller) 0 content children in
-      let entry : IdRecord = record { owner = 0; body = control.drawn + 1; holder = Caller caller } in
-      let here : id_at more n ≡ Some entry = new-naming control.names control.drawn (Caller caller) 0 content children orderly.within in
-      let is_more : AreMore control.names more = more-registered control.names control.drawn (Caller caller) 0 content children orderly.within in
-      let sound : IsSound arity more = sound-registered arity control.names control.drawn (Caller caller) 0 content children orderly.sound orderly.within tt live many in
-      let reached : AreReached more = λ q some. elim (same_or_not q (control.drawn + 1)) [
-        | inl same ↦ subst (IsReached more) (sym same) (Outside n entry here tt)
-        | inr apart ↦ reached-more control.names more q is_more.ids (orderly.reached q (old_body lib arity control orderly caller content children q apart some))
-      ] in
-      subst (IsOrderly arity) (sym (tidied_still arity (register_event control caller content children) sound reached))
-      (order_grown arity control orderly drawn more (omega arith) sound reached (registered-within control.names control.drawn (Caller caller) 0 content children orderly.within) is_more
+      let grows = register_grows lib arity control orderly caller content children many live in
+      subst (IsOrderly arity) (sym (tidied_still arity (register_event control caller content children) grows.sound grows.reached))
+      (order_grown arity control orderly drawn more (omega arith) grows.sound grows.reached (registered-within control.names control.drawn (Caller caller) 0 content children orderly.within) grows.is_more
       (λ q e is. elim (naming-from control.names control.drawn (Caller caller) 0 content children orderly.within live q e is) [
         | inl old ↦ inl old
         | inr other ↦ elim other [

@@ -76,7 +76,8 @@ module _ {C : Type 0} where
       copies_read arity state (linked state drawn holder refs) holder sound (more_linked state drawn holder refs within) refs (numbered drawn refs)
       (linked-copies state state drawn holder refs within (λ q e is. is) live)
 
-same_bools : (a b : Bool) → (a ≡ true → b ≡ true) → (b ≡ true → a ≡ true) → a ≡ b
+-- two tests are the same where each passes when the other does
+pub same_bools : (a b : Bool) → (a ≡ true → b ≡ true) → (b ≡ true → a ≡ true) → a ≡ b
 same_bools true b to back = sym (to refl)
 same_bools false true to back = back refl
 same_bools false false to back = refl
