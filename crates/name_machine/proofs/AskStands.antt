@@ -22,7 +22,7 @@ use Rattle.task_states.specs.States.{Input, Known, Unfinished, Graph, task_at, i
 use Rattle.task_states.specs.Steps.{added, with_asked}
 use Rattle.task_states.proofs.Maps.{same_maps}
 use Rattle.cht_history.specs.declared.event.Event.TheVariants.{Ask as AskEvent}
-use Rattle.name_machine.specs.States.{Machine, Ask}
+use Rattle.name_machine.specs.States.{Ask}
 use Rattle.name_machine.specs.States as machine
 use Rattle.name_machine.specs.Steps.{asked}
 use Rattle.name_machine.specs.Goals.{goal_within}

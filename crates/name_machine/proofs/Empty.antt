@@ -20,10 +20,10 @@ use Rattle.name_machine.proofs.Works.{chosen_from, chosen_to}
 
 module _ {X : Type 0} where
   -- a map of no length holds nothing, and the other way round
-  none_in : (m : map.FinMap nat_cmp X) → map.len m ≡ 0 → (k : ℕ) (x : X) → map.get m k ≡ Some x → ⊥
+  pub none_in : (m : map.FinMap nat_cmp X) → map.len m ≡ 0 → (k : ℕ) (x : X) → map.get m k ≡ Some x → ⊥
   none_in m is k x at = none_not_some (ap (λ n. map.get n k) (map.empty_of_len m is) ∙ map.get-empty nat_cmp k) at
 
-  no_len : (m : map.FinMap nat_cmp X) → ((k : ℕ) (x : X) → map.get m k ≡ Some x → ⊥) → map.len m ≡ 0
+  pub no_len : (m : map.FinMap nat_cmp X) → ((k : ℕ) (x : X) → map.get m k ≡ Some x → ⊥) → map.len m ≡ 0
   no_len m none =
       ap map.len (same_maps m map.empty (λ k. nothing (map.get m k) (λ x at. none k x at) ∙ sym (map.get-empty nat_cmp k))) ∙ map.len-empty nat_cmp X
     where

@@ -25,10 +25,14 @@ pub mod Stopping
 pub mod Forgets
 pub mod Stand
 pub mod Orderly
+pub mod Ordered
+pub mod Fewer
 pub mod Grow
 pub mod Linking
 pub mod AskedFor
 pub mod AskStands
+pub mod AskOrdered
+pub mod Leaving
 pub mod FinishNames
 pub mod FinishNamesRead
 pub mod FinishMiddle
@@ -41,6 +45,11 @@ pub mod FinishEnd
 pub mod FinishFacts
 pub mod FinishShown
 pub mod FinishStands
-pub mod StandsStep
 pub mod KeepsOrder
+pub mod FewerStand
+pub mod CollectStands
+pub mod StandsStep
 pub mod Empty
+pub mod ComesOn
+pub mod Listed
+pub mod Exampling

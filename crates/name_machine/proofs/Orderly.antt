@@ -1,5 +1,5 @@
 -- What a control state in order tells.
-use Rattle.std.proofs.Common.{◌≡◌, ℕ, ◌≤◌, inl, inr, slice_get, Option, None, Some, is_some, IsSome, sym, ap, ◌∙◌}
+use Rattle.std.proofs.Common.{◌≡◌, ℕ, ◌≤◌, inl, inr, slice_get, Option, None, Some, is_some, IsSome, true, sym, ap, subst, ◌∙◌}
 use Rattle.std.specs.Option.{option_map}
 use Rattle.std.specs.FinMap as map
 use Rattle.cht_ids.specs.declared.refs.Id.{Id}
@@ -7,13 +7,13 @@ use Rattle.cht_ids.specs.declared.refs.Ref.{Ref}
 use Rattle.cht_ids.specs.declared.refs.Ref.TheVariants.{Null, Id as Held}
 use Rattle.name_states.specs.declared.holder.Holder.{Holder}
 use Rattle.name_states.specs.declared.holder.Holder.TheVariants.{Caller, Task}
-use Rattle.name_states.specs.States.{NameState, IdRecord, id_at, record_of, holder_of, IsLiveRef}
-use Rattle.name_states.proofs.Basics.{none_not_some, none_or_some}
+use Rattle.name_states.specs.States.{NameState, IdRecord, id_at, record_of, IsLiveRef}
+use Rattle.name_states.proofs.Basics.{none_not_some, none_or_some, some_value, same_some}
 use Rattle.name_states.proofs.Within.{naming-number, number-naming}
-use Rattle.task_states.specs.States.{Input, Known, Unfinished, task_at, input_at}
+use Rattle.task_states.specs.States.{Input, Known, Unfinished, task_at}
 use Rattle.name_machine.specs.States.{Ask}
 use Rattle.name_machine.specs.Control.{Control}
-use Rattle.name_machine.specs.Standing.{IsRefOf, IsOrderly}
+use Rattle.name_machine.specs.Standing.{HasNoOutput, IsRefOf, IsOrderly}
 use Rattle.name_machine.proofs.Ends.{inputs_at}
 use Rattle.name_machine.proofs.Tasks.{mapped_from}
 
@@ -71,3 +71,19 @@ module _ {C K : Type 0} (arity : C → ℕ) (control : Control C (Unit {0}) K) (
   -- the number of an output was drawn
   pub output_is_drawn : (task : ℕ) (ask : Ask (Unit {0}) Ref) → map.get control.asks task ≡ Some ask → ask.number ≤ control.drawn
   output_is_drawn task ask is = orderly.aside.drawn task ask is
+
+  -- what has the number of an output is held by the caller that asked
+  pub output_holder : (task number : ℕ) (ask : Ask (Unit {0}) Ref) (entry : IdRecord) → map.get control.asks task ≡ Some ask → ask.number ≡ number → is_some ask.delivered ≡ true
+      → id_at control.names number ≡ Some entry → entry.holder ≡ Caller ask.caller
+  output_holder task number ask entry is same done at =
+      let r = some_value ask.delivered done in
+      by r.0 r.1
+    where
+      by : (r : Ref) → ask.delivered ≡ Some r → entry.holder ≡ Caller ask.caller
+      by Null delivered =
+          absurd (none_not_some (orderly.aside.outputs task ask is (subst HasNoOutput (sym delivered) tt)) (ap (id_at control.names) same ∙ at))
+      by (Held id) delivered =
+          let was = orderly.held.outputs task ask (Held id) is delivered in
+          let e = held_entry control.names (Caller ask.caller) id was.0 in
+          let one : e.0 ≡ entry = same_some e.0 entry (sym e.1 ∙ ap (id_at control.names) (was.1 ∙ same) ∙ at) in
+          ap (λ (x : IdRecord). x.holder) (sym one) ∙ e.3

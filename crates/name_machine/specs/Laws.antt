@@ -28,7 +28,7 @@ use Rattle.name_machine.specs.Steps.{input_trees}
 use Rattle.name_machine.specs.Machine.{IsStep, IsLegalRun}
 use Rattle.name_machine.specs.Facts.{HoldsTogether}
 use Rattle.name_machine.specs.Parts.{is_callers_own, is_workers_own, work_left, account_of, caller_part, worker_part}
-use Rattle.name_machine.specs.Replay.{Plans, Replayed, is_mine, is_planned, is_allowed, happens, replay}
+use Rattle.name_machine.specs.Replay.{Plans, Replayed, is_mine, is_planned, is_allowed, arities, happens, replay}
 
 module _ {K : Type 0} where
   -- whether an event is the finish of a task
@@ -264,3 +264,24 @@ KeepsOrder {C} {K} lib arity plans =
 -- the opening state is in order
 abbrev pub OpeningIsOrderly : {C : Type 0} → Type 0 → (C → ℕ) → Type 0
 OpeningIsOrderly {C} K arity = IsOrderly arity (no_control {B = C} {G = Unit {0}} {K = K})
+
+-- ---- A control state and its events
+
+-- A control state with contents comes of a list of events: it is in order, the legal run of these events leads to the state that it
+-- stands for, and a replay of them leads to it without its contents.
+pub record ComesOf {C K : Type 0} (lib : Meanings C K) (arity : C → ℕ) (plans : Plans K) (events : List (Event K)) (control : Control C (Unit {0}) K) : Type 0 where
+  pub ordered : IsOrderly arity control
+  pub run : IsLegalRun lib arity events (machine_of lib control)
+  pub replayed : replay plans events ≡ Some (forgotten arity control)
+
+-- the opening state comes of no events
+abbrev pub OpeningComesOfNone : {C K : Type 0} → Meanings C K → (C → ℕ) → Plans K → Type 0
+OpeningComesOfNone {C} {K} lib arity plans = ComesOf lib arity plans [] (no_control {B = C} {G = Unit {0}} {K = K})
+
+-- where a control state comes of some events, and one more is allowed there and is as the machine wants it, with as many contents as it
+-- tells, the state after it comes of all of them
+abbrev pub EventsLeadOn : {C K : Type 0} → Meanings C K → (C → ℕ) → Plans K → Type 0
+EventsLeadOn {C} {K} lib arity plans =
+    (events : List (Event K)) (control : Control C (Unit {0}) K) (contents : List C) (event : Event K) → ComesOf lib arity plans events control
+    → IsAsWanted lib arity (machine_of lib control) contents event → each arity contents ≡ arities event → is_allowed plans (forgotten arity control) event ≡ true
+    → ComesOf lib arity plans (events ++ event ∷ []) (tidied (effect_with control contents event))

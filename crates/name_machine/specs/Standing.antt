@@ -1,5 +1,5 @@
 -- The state of the machine that a control state with contents stands for.
-use Rattle.std.specs.Prelude.{◌≡◌, ℕ, ◌==◌, ◌≤◌, Bool, false, slice_get, IsSome, if◌then◌else◌, List, [], ◌∷◌, map as each, Option, None, Some}
+use Rattle.std.specs.Prelude.{◌≡◌, ℕ, ◌==◌, ◌≤◌, Bool, false, if◌then◌else◌, List, [], ◌∷◌, map as each, Option, None, Some}
 use Rattle.std.specs.Option.{option_map}
 use Rattle.std.specs.List.{list_any}
 use Rattle.std.specs.Ordering.{nat_cmp}
