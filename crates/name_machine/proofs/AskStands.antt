@@ -22,7 +22,7 @@ use Rattle.task_states.specs.States.{Input, Known, Unfinished, Graph, task_at, i
 use Rattle.task_states.specs.Steps.{added, with_asked}
 use Rattle.task_states.proofs.Maps.{same_maps}
 use Rattle.cht_history.specs.declared.event.Event.TheVariants.{Ask as AskEvent}
-use Rattle.name_machine.specs.States.{Machine, Ask}
+use Rattle.name_machine.specs.States.{Ask}
 use Rattle.name_machine.specs.States as machine
 use Rattle.name_machine.specs.Steps.{asked}
 use Rattle.name_machine.specs.Goals.{goal_within}
@@ -36,6 +36,7 @@ use Rattle.name_machine.proofs.Tasks.{changed_here, changed_other}
 use Rattle.name_machine.proofs.Asking.{known_read}
 use Rattle.name_machine.proofs.Works.{chosen_from, chosen_to}
 use Rattle.name_machine.proofs.Stand.{shown_at, shown_changed, not_true}
+use Rattle.name_machine.proofs.Orderly.{output_is_live, output_is_drawn}
 use Rattle.name_machine.proofs.Grow.{drawn_deeper, graph_grown, held_same, may_all}
 use Rattle.name_machine.proofs.Linking.{sound_linked, more_linked, reached_linked, linked_read, is_output_more}
 use Rattle.name_machine.proofs.AskedFor.{asked_is, added_same, known_goal}
@@ -159,7 +160,7 @@ module _ {C K : Type 0} (lib : Meanings C K) (arity : C → ℕ) (control : Cont
         | inl done ↦ absurd (none_not_some (ap (option_map (tree_of control.names)) none) done)
         | inr waits ↦
             let n : ℕ = waits.1 in
-            let low = orderly.asked k a is in
+            let low = output_is_drawn arity control orderly k a is in
             ap (goal_within lib out final) (asked_is a.number final n waits.2 (final_old n waits.2 waits.3) waits.4 (λ r u at asked. elim (final_from r u at) [
               | inl here ↦ absurd (let same : out ≡ a.number = same_some out a.number (sym (ap (λ v. v.asked) here.1) ∙ asked) in omega arith)
               | inr old ↦ facts.asked.differ r n a.number u waits.2 old waits.3 asked waits.4
@@ -178,7 +179,7 @@ module _ {C K : Type 0} (lib : Meanings C K) (arity : C → ℕ) (control : Cont
       open_shown : a.delivered ≡ None → (ask_shown lib out more final a).goal ≡ goal_within lib out final (asked_among a.number (map.entries final.tasks))
       open_shown e = ap (goal_shown lib out more final a.number) e
   old_ask k a is (Some r) done =
-      let same = tree-kept arity control.names more orderly.sound is_more r (orderly.outputs k a r is done) in
+      let same = tree-kept arity control.names more orderly.sound is_more r (output_is_live arity control orderly k a r is done) in
       let goal : (ask_shown lib out more final a).goal ≡ (ask_shown lib control.drawn control.names shown a).goal =
       ap (goal_shown lib out more final a.number) done ∙ same ∙ sym (ap (goal_shown lib control.drawn control.names shown a.number) done) in
       let output : option_map (tree_of more) a.delivered ≡ option_map (tree_of control.names) a.delivered = ap (option_map (tree_of more)) done ∙ ap Some same ∙ sym (ap (option_map (tree_of control.names)) done) in

@@ -15,14 +15,15 @@ use Rattle.name_machine.specs.Control.{Control, is_uncollected}
 use Rattle.name_machine.specs.Standing.{task_shown, graph_shown, held_shown, is_output, holding_shown, ask_shown, machine_of, IsOrderly, HasNothing, HoldsNothing}
 use Rattle.name_machine.specs.Laws.{EmptyBothWays}
 use Rattle.name_machine.proofs.Values.{any_to}
+use Rattle.name_machine.proofs.Orderly.{holder_is_there}
 use Rattle.name_machine.proofs.Works.{chosen_from, chosen_to}
 
 module _ {X : Type 0} where
   -- a map of no length holds nothing, and the other way round
-  none_in : (m : map.FinMap nat_cmp X) → map.len m ≡ 0 → (k : ℕ) (x : X) → map.get m k ≡ Some x → ⊥
+  pub none_in : (m : map.FinMap nat_cmp X) → map.len m ≡ 0 → (k : ℕ) (x : X) → map.get m k ≡ Some x → ⊥
   none_in m is k x at = none_not_some (ap (λ n. map.get n k) (map.empty_of_len m is) ∙ map.get-empty nat_cmp k) at
 
-  no_len : (m : map.FinMap nat_cmp X) → ((k : ℕ) (x : X) → map.get m k ≡ Some x → ⊥) → map.len m ≡ 0
+  pub no_len : (m : map.FinMap nat_cmp X) → ((k : ℕ) (x : X) → map.get m k ≡ Some x → ⊥) → map.len m ≡ 0
   no_len m none =
       ap map.len (same_maps m map.empty (λ k. nothing (map.get m k) (λ x at. none k x at) ∙ sym (map.get-empty nat_cmp k))) ∙ map.len-empty nat_cmp X
     where
@@ -64,7 +65,7 @@ module _ {C K : Type 0} (lib : Meanings C K) (arity : C → ℕ) (control : Cont
       false_if true never = absurd (never refl)
       false_if false never = refl
   none_outside has number entry is (Task task) held outside =
-      let there = some_value (task_at control.graph task) (orderly.holders number task entry is held) in
+      let there = some_value (task_at control.graph task) (holder_is_there arity control orderly number task entry is held) in
       none_in control.graph.tasks (no_tasks_left has) task there.0 there.1
   none_outside has number entry is (Body body) held outside = outside
 

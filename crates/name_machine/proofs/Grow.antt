@@ -29,7 +29,7 @@ use Rattle.task_states.specs.Maps.{chosen}
 use Rattle.task_states.specs.States.{Input, Known, Awaits, Unfinished, Graph, task_at}
 use Rattle.task_states.proofs.Maps.{same_maps}
 use Rattle.cht_history.specs.declared.event.Event.TheVariants.{Register, Copy}
-use Rattle.name_machine.specs.States.{Machine, Holding, Ask, MayMention, MayMentionAll, is_of, mine, held_by, tree_of_holding}
+use Rattle.name_machine.specs.States.{Holding, Ask, MayMention, MayMentionAll, is_of, mine, held_by, tree_of_holding}
 use Rattle.name_machine.specs.States as machine
 use Rattle.name_machine.specs.Machine.{Copies, Registers}
 use Rattle.name_machine.specs.Replay.{Plans, is_id, is_caller, is_callers, is_mine, may_mention, is_allowed}
@@ -43,6 +43,7 @@ use Rattle.name_machine.proofs.Ends.{inputs_at}
 use Rattle.name_machine.proofs.Invariant.{same_readings}
 use Rattle.name_machine.proofs.Works.{chosen_from, chosen_to}
 use Rattle.name_machine.proofs.Stand.{shown_at, not_true}
+use Rattle.name_machine.proofs.Orderly.{input_is_live, output_is_live, output_is_drawn}
 
 -- ---- Depths
 
@@ -92,7 +93,7 @@ module _ {C K : Type 0} (lib : Meanings C K) (arity : C → ℕ) (control : Cont
   one_task : (q : ℕ) (o : Option (Unfinished Ref K)) → task_at control.graph q ≡ o → option_map (task_shown more) o ≡ option_map (task_shown control.names) o
   one_task q None is = refl
   one_task q (Some t) is =
-      let inputs = all_inputs t.inputs (λ p r at. orderly.inputs q p t r is at) in
+      let inputs = all_inputs t.inputs (λ p r at. input_is_live arity control orderly q p t r is at) in
       λ i. Some (record { caller = t.caller; kind = t.kind; inputs = inputs i; runner = t.runner; asked = t.asked })
 
   pub graph_grown : graph_shown more control.graph ≡ graph_shown control.names control.graph
@@ -111,7 +112,7 @@ module _ {C K : Type 0} (lib : Meanings C K) (arity : C → ℕ) (control : Cont
     refl,
   )
   one_ask drawn k a up levels is (Some r) at =
-      let same = tree-kept arity control.names more orderly.sound is_more r (orderly.outputs k a r is at) in (same, ap Some same)
+      let same = tree-kept arity control.names more orderly.sound is_more r (output_is_live arity control orderly k a r is at) in (same, ap Some same)
 
   pub asks_grown : (drawn : ℕ) → control.drawn ≤ drawn → HasLevels (graph_shown control.names control.graph) control.drawn
       → chosen (λ task ask. Some (ask_shown lib drawn more (graph_shown more control.graph) ask)) control.asks ≡ (machine_of lib control).asks
@@ -180,14 +181,14 @@ module _ {C K : Type 0} (lib : Meanings C K) (arity : C → ℕ) (control : Cont
 
 -- ---- Copies and registers
 
-uncollected_number : {G : Type 0} (caller n : ℕ) (a : Ask G Ref) → is_uncollected caller n a ≡ true → a.number ≡ n
+pub uncollected_number : {G : Type 0} (caller n : ℕ) (a : Ask G Ref) → is_uncollected caller n a ≡ true → a.number ≡ n
 uncollected_number caller n a is = same_from_test a.number n (both_right (is_of caller a) (nat_eq a.number n) (both_left (is_of caller a && nat_eq a.number n) (is_some a.delivered) is))
 
-both_true : (a b : Bool) → a ≡ true → b ≡ true → (a && b) ≡ true
+pub both_true : (a b : Bool) → a ≡ true → b ≡ true → (a && b) ≡ true
 both_true true b p q = q
 both_true false b p q = absurd (let clash : false ≡ true = p in cc)
 
-false_or : (b : Bool) → (b ≡ true → ⊥) → b ≡ false
+pub false_or : (b : Bool) → (b ≡ true → ⊥) → b ≡ false
 false_or true never = absurd (never refl)
 false_or false never = refl
 
@@ -198,24 +199,26 @@ is_caller_of caller (Body body) is = absurd (let clash : false ≡ true = is in 
 
 module _ {C K : Type 0} (lib : Meanings C K) (arity : C → ℕ) (control : Control C (Unit {0}) K) (orderly : IsOrderly arity control) where
   -- a new number is no output's
-  no_output : (n : ℕ) (holder : Holder) → control.drawn < n → is_output control.asks n holder ≡ false
+  pub no_output : (n : ℕ) (holder : Holder) → control.drawn < n → is_output control.asks n holder ≡ false
   no_output n (Caller caller) high =
       false_or (list_any (is_uncollected caller n) (map.values control.asks)) (λ is.
       let one = any_to (is_uncollected caller n) control.asks is in
-      let low = orderly.asked one.0 one.1 one.2 in
+      let low = output_is_drawn arity control orderly one.0 one.1 one.2 in
       let number = uncollected_number caller n one.1 one.3 in
       omega arith)
   no_output n (Task task) high = refl
   no_output n (Body body) high = refl
 
   -- what a caller holds, in the names and in the state that is stood for
-  record IsMine (caller : ℕ) (id : Id) : Type 0 where
+  pub record IsMine (caller : ℕ) (id : Id) : Type 0 where
     pub entry : IdRecord
     pub named : record_of control.names id ≡ Some entry
     pub there : id_at control.names id.number ≡ Some entry
+    pub holder : entry.holder ≡ Caller caller
+    pub fresh : list_any (is_uncollected caller id.number) (map.values control.asks) ≡ false
     pub held : map.get (machine_of lib control).holdings id.number ≡ Some (record { caller = caller; owner = id.owner; tree = body_tree control.names entry.body })
 
-  mine_of : (caller : ℕ) (id : Id) → is_mine (forgotten arity control) caller id ≡ true → IsMine caller id
+  pub mine_of : (caller : ℕ) (id : Id) → is_mine (forgotten arity control) caller id ≡ true → IsMine caller id
   mine_of caller id is =
       elim (none_or_some (record_of control.names id)) [
         | inl none ↦ absurd (let clash : false ≡ true = sym (ap (is_callers (forgotten arity control) caller id) none) ∙ is in cc)
@@ -232,11 +235,13 @@ module _ {C K : Type 0} (lib : Meanings C K) (arity : C → ℕ) (control : Cont
               entry = some.0;
               named = some.1;
               there = at.0;
+              holder = holder;
+              fresh = fresh;
               held = chosen_to (held_shown control.asks control.names) control.names.ids id.number some.0 _ at.0 shown;
             }
       ]
 
-  mine_held : (caller : ℕ) (id : Id) (mine_it : IsMine caller id)
+  pub mine_held : (caller : ℕ) (id : Id) (mine_it : IsMine caller id)
       → held_by (machine_of lib control) caller id ≡ Some (record { caller = caller; owner = id.owner; tree = body_tree control.names mine_it.entry.body })
   mine_held caller id mine_it =
       ap (mine caller id.owner) mine_it.held
@@ -249,6 +254,25 @@ module _ {C K : Type 0} (lib : Meanings C K) (arity : C → ℕ) (control : Cont
   tidied_grown : (drawn : ℕ) (more : NameState C) → IsSound arity more → AreReached more → tidied (record control { drawn = drawn; names = more }) ≡ record control { drawn = drawn; names = more }
   tidied_grown drawn more sound reached = ap (λ (n : NameState C). let c : Control C (Unit {0}) K = record control { drawn = drawn; names = n } in c) (nothing_goes arity more sound reached)
 
+  -- names that a copy or a register leaves: they are more, sound and reached
+  pub record Grows (more : NameState C) : Type 0 where
+    pub is_more : AreMore control.names more
+    pub sound : IsSound arity more
+    pub reached : AreReached more
+
+  pub copy_grows : (caller : ℕ) (from : Id) → IsMine caller from → Grows (names.copied control.names from.number (control.drawn + 1) (Caller caller))
+  copy_grows caller from its =
+      let n : ℕ = control.drawn + 1 in
+      let more : NameState C = names.copied control.names from.number n (Caller caller) in
+      let free : id_at control.names n ≡ None = unnamed-next control.names control.drawn n orderly.within (omega arith) in
+      let same_bodies : more.bodies ≡ control.names.bodies = bodies-with_copy control.names n (Caller caller) (id_at control.names from.number) in
+      let keeps = copied-keeps control.names from.number n (Caller caller) free in
+      record {
+        is_more = record { ids = keeps; bodies = λ q body is. ap (λ bodies. map.get bodies q) same_bodies ∙ is };
+        sound = sound-copied arity control.names from.number n (Caller caller) its.entry orderly.sound tt its.there free;
+        reached = λ q some. reached-more control.names more q keeps (orderly.reached q (subst (λ bodies. IsSome (map.get bodies q)) same_bodies some));
+      }
+
   pub copy_stands : (plans : Plans K) (caller : ℕ) (from to : Id) → HoldsTogether lib (machine_of lib control) → is_allowed plans (forgotten arity control) (Copy caller from to) ≡ true
       → Copies lib arity (machine_of lib control) (machine_of lib (tidied (copy_event control caller from))) caller from to
   copy_stands plans caller from to facts allowed =
@@ -258,15 +282,11 @@ module _ {C K : Type 0} (lib : Meanings C K) (arity : C → ℕ) (control : Cont
       let owner : to.owner ≡ from.owner = same_from_test to.owner from.owner (both_left (nat_eq to.owner from.owner) (nat_eq to.number n) to_is) in
       let number : to.number ≡ n = same_from_test to.number n (both_right (nat_eq to.owner from.owner) (nat_eq to.number n) to_is) in
       let more : NameState C = names.copied control.names from.number n (Caller caller) in
+      let grows = copy_grows caller from its in
       let free : id_at control.names n ≡ None = unnamed-next control.names control.drawn n orderly.within (omega arith) in
       let entry : IdRecord = record its.entry { holder = Caller caller } in
       let here : id_at more n ≡ Some entry = copied-here control.names from.number n (Caller caller) its.entry its.there in
-      let same_bodies : more.bodies ≡ control.names.bodies = bodies-with_copy control.names n (Caller caller) (id_at control.names from.number) in
-      let keeps = copied-keeps control.names from.number n (Caller caller) free in
-      let is_more : AreMore control.names more = record { ids = keeps; bodies = λ q body is. ap (λ bodies. map.get bodies q) same_bodies ∙ is } in
-      let sound : IsSound arity more = sound-copied arity control.names from.number n (Caller caller) its.entry orderly.sound tt its.there free in
-      let reached : AreReached more = λ q some. reached-more control.names more q keeps (orderly.reached q (subst (λ bodies. IsSome (map.get bodies q)) same_bodies some)) in
-      let body_same : body_tree more its.entry.body ≡ body_tree control.names its.entry.body = body-tree-kept arity control.names more orderly.sound is_more its.entry.body (ap is_some (orderly.sound.named from.number its.entry its.there).1) in
+      let body_same : body_tree more its.entry.body ≡ body_tree control.names its.entry.body = body-tree-kept arity control.names more orderly.sound grows.is_more its.entry.body (ap is_some (orderly.sound.named from.number its.entry its.there).1) in
       let owner_is : its.entry.owner ≡ from.owner = (naming-number control.names from its.entry its.named).1 in
       let h : Holding C = record { caller = caller; owner = to.owner; tree = body_tree control.names its.entry.body } in
       let shown : held_shown control.asks more n entry ≡ Some h =
@@ -277,8 +297,8 @@ module _ {C K : Type 0} (lib : Meanings C K) (arity : C → ℕ) (control : Cont
         held = mine_held caller from its;
         number = number;
         after_is =
-            ap (machine_of lib) (tidied_grown n more sound reached)
-            ∙ state_grown lib arity control orderly more is_more n n h (omega arith) facts.levels free (entry, here, shown)
+            ap (machine_of lib) (tidied_grown n more grows.sound grows.reached)
+            ∙ state_grown lib arity control orderly more grows.is_more n n h (omega arith) facts.levels free (entry, here, shown)
             (λ q e is. elim (copied-from control.names n (Caller caller) (id_at control.names from.number) q e is) [ inl old ↦ inl old | inr new ↦ inr (inl new.3) ]);
       }
 
@@ -308,6 +328,23 @@ module _ {C K : Type 0} (lib : Meanings C K) (arity : C → ℕ) (control : Cont
       let bodies_are = bodies-linked base (control.drawn + 2) (Body (control.drawn + 1)) children in
       subst (λ o. IsSome o) (ap (λ bodies. map.get bodies q) bodies_are ∙ inserted_other control.names.bodies (control.drawn + 1) q new_body apart) some
 
+  pub register_grows : (caller : ℕ) (content : C) (children : List Ref) → length children ≡ arity content → AreLive control.names children
+      → Grows (names.registered control.names control.drawn (Caller caller) 0 content children)
+  register_grows caller content children many live =
+      let n : ℕ = control.drawn + 2 in
+      let more : NameState C = names.registered control.names control.drawn (Caller caller) 0 content children in
+      let entry : IdRecord = record { owner = 0; body = control.drawn + 1; holder = Caller caller } in
+      let here : id_at more n ≡ Some entry = new-naming control.names control.drawn (Caller caller) 0 content children orderly.within in
+      let is_more : AreMore control.names more = more-registered control.names control.drawn (Caller caller) 0 content children orderly.within in
+      record {
+        is_more = is_more;
+        sound = sound-registered arity control.names control.drawn (Caller caller) 0 content children orderly.sound orderly.within tt live many;
+        reached = λ q some. elim (same_or_not q (control.drawn + 1)) [
+          | inl same ↦ subst (IsReached more) (sym same) (Outside n entry here tt)
+          | inr apart ↦ reached-more control.names more q is_more.ids (orderly.reached q (old_body caller content children q apart some))
+        ];
+      }
+
   pub register_stands : (plans : Plans K) (caller : ℕ) (id : Id) (children : List Ref) (content : C) → length children ≡ arity content → HoldsTogether lib (machine_of lib control)
       → is_allowed plans (forgotten arity control) (Register caller id children) ≡ true
       → Registers lib arity (machine_of lib control) (machine_of lib (tidied (register_event control caller content children))) caller id children
@@ -324,12 +361,7 @@ module _ {C K : Type 0} (lib : Meanings C K) (arity : C → ℕ) (control : Cont
       let free : id_at control.names n ≡ None = unnamed-next control.names control.drawn n orderly.within (omega arith) in
       let entry : IdRecord = record { owner = 0; body = control.drawn + 1; holder = Caller caller } in
       let here : id_at more n ≡ Some entry = new-naming control.names control.drawn (Caller caller) 0 content children orderly.within in
-      let is_more : AreMore control.names more = more-registered control.names control.drawn (Caller caller) 0 content children orderly.within in
-      let sound : IsSound arity more = sound-registered arity control.names control.drawn (Caller caller) 0 content children orderly.sound orderly.within tt live many in
-      let reached : AreReached more = λ q some. elim (same_or_not q (control.drawn + 1)) [
-        | inl same ↦ subst (IsReached more) (sym same) (Outside n entry here tt)
-        | inr apart ↦ reached-more control.names more q is_more.ids (orderly.reached q (old_body caller content children q apart some))
-      ] in
+      let grows = register_grows caller content children many live in
       let new_tree : body_tree more (control.drawn + 1) ≡ rooted content (each (tree_of control.names) children) =
       sym (ap (tree_named (body_tree more)) (ap (owned_by 0) here ∙ owned-same 0 entry refl))
       ∙ tree-registered arity control.names control.drawn (Caller caller) 0 content children orderly.sound orderly.within live in
@@ -345,8 +377,8 @@ module _ {C K : Type 0} (lib : Meanings C K) (arity : C → ℕ) (control : Cont
         all_children = many;
         number = number;
         after_is =
-            ap (machine_of lib) (tidied_grown drawn more sound reached)
-            ∙ state_grown lib arity control orderly more is_more drawn n h (omega arith) facts.levels free (entry, here, shown)
+            ap (machine_of lib) (tidied_grown drawn more grows.sound grows.reached)
+            ∙ state_grown lib arity control orderly more grows.is_more drawn n h (omega arith) facts.levels free (entry, here, shown)
             (λ q e is. elim (naming-from control.names control.drawn (Caller caller) 0 content children orderly.within live q e is) [
               | inl old ↦ inl old
               | inr other ↦ elim other [

@@ -8,7 +8,7 @@ use Rattle.task_types.proofs.FormedTest.{both_right}
 use Rattle.name_states.specs.declared.holder.Holder.{Holder}
 use Rattle.name_states.specs.declared.holder.Holder.TheVariants.{Caller, Task, Body}
 use Rattle.name_states.specs.States.{NameState, IdRecord, id_at, record_of, owned_by, AreLive}
-use Rattle.name_states.specs.Steps.{IsOutside, present, numbered, drawn_by, linked, linked_ref}
+use Rattle.name_states.specs.Steps.{IsOutside, numbered, linked}
 use Rattle.name_states.specs.Steps as names
 use Rattle.name_states.specs.Rules.{IsSound, AreReached, AreWithin}
 use Rattle.name_states.specs.Trees.{tree_named, body_tree, tree_of}
@@ -76,7 +76,8 @@ module _ {C : Type 0} where
       copies_read arity state (linked state drawn holder refs) holder sound (more_linked state drawn holder refs within) refs (numbered drawn refs)
       (linked-copies state state drawn holder refs within (λ q e is. is) live)
 
-same_bools : (a b : Bool) → (a ≡ true → b ≡ true) → (b ≡ true → a ≡ true) → a ≡ b
+-- two tests are the same where each passes when the other does
+pub same_bools : (a b : Bool) → (a ≡ true → b ≡ true) → (b ≡ true → a ≡ true) → a ≡ b
 same_bools true b to back = sym (to refl)
 same_bools false true to back = back refl
 same_bools false false to back = refl

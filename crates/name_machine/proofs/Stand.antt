@@ -166,7 +166,7 @@ change_keeps graph n f part same q =
       | inr apart ↦ ap (option_map part) (changed_other graph n q f apart)
     ]
 
-awaiting_shown : {C : Type 0} (names : NameState C) (inputs : List (Input Ref)) → list_any is_awaiting (each (input_shown names) inputs) ≡ list_any is_awaiting inputs
+pub awaiting_shown : {C : Type 0} (names : NameState C) (inputs : List (Input Ref)) → list_any is_awaiting (each (input_shown names) inputs) ≡ list_any is_awaiting inputs
 awaiting_shown names [] = refl
 awaiting_shown names (Known r ∷ inputs) = awaiting_shown names inputs
 awaiting_shown names (Awaits task number ∷ inputs) = refl
@@ -265,7 +265,7 @@ module _ {C K : Type 0} (lib : Meanings C K) where
       ∙ graph_changed control (with_task control.graph task run_ref) (with_task shown task run_it) (shown_changed control.names control.graph task run_ref run_it (λ t. refl))
       (change_keeps shown task run_it (asks_what lib) (λ t. refl)) (change_keeps shown task run_it (λ t. t.asked) (λ t. refl))
 
-  ask_shown_has : (control : Control C (Unit {0}) K) (caller : ℕ) → has_ask control.asks caller ≡ true → has_ask (machine_of lib control).asks caller ≡ true
+  pub ask_shown_has : (control : Control C (Unit {0}) K) (caller : ℕ) → has_ask control.asks caller ≡ true → has_ask (machine_of lib control).asks caller ≡ true
   ask_shown_has control caller is =
       let one = any_to (is_of caller) control.asks is in
       let shown : Ask (Tree C) (Tree C) = ask_shown lib control.drawn control.names (graph_shown control.names control.graph) one.1 in

@@ -9,6 +9,10 @@ use Rattle.cht_ids.specs.declared.refs.Ref.TheVariants.{Id as Held}
 use Rattle.task_types.specs.declared.outcome.Place.{Place}
 use Rattle.task_types.specs.declared.outcome.Places.{Places}
 use Rattle.task_types.specs.declared.outcome.NewTask.{NewTask}
+use Rattle.task_types.specs.declared.outcome.NewChunk.{NewChunk}
+use Rattle.task_types.specs.declared.outcome.Outcome.{Outcome}
+use Rattle.task_types.specs.Tree.{Tree}
+use Rattle.task_types.specs.Sound.{IsSound}
 use Rattle.name_states.specs.declared.holder.Holder.TheVariants.{Caller as ByCaller}
 use Rattle.name_states.specs.States.{IdRecord, record_of}
 use Rattle.task_states.specs.declared.states.TaskStatus.TheVariants.{Ready}
@@ -20,10 +24,11 @@ use Rattle.name_machine.specs.Control.{Control, no_control, tidied, effect_with}
 use Rattle.name_machine.specs.Forgetting.{forgotten}
 use Rattle.name_machine.specs.Standing.{machine_of, IsOrderly, HasNothing, HoldsNothing}
 use Rattle.name_machine.specs.States.{Machine, Ask as AskOf, opening, tree_named}
+use Rattle.name_machine.specs.Steps.{input_trees}
 use Rattle.name_machine.specs.Machine.{IsStep, IsLegalRun}
 use Rattle.name_machine.specs.Facts.{HoldsTogether}
 use Rattle.name_machine.specs.Parts.{is_callers_own, is_workers_own, work_left, account_of, caller_part, worker_part}
-use Rattle.name_machine.specs.Replay.{Plans, Replayed, is_mine, is_planned, is_allowed, happens, replay}
+use Rattle.name_machine.specs.Replay.{Plans, Replayed, is_mine, is_planned, is_allowed, arities, happens, replay}
 
 module _ {K : Type 0} where
   -- whether an event is the finish of a task
@@ -223,23 +228,60 @@ abbrev pub EmptyBothWays : {C K : Type 0} → Meanings C K → (C → ℕ) → T
 EmptyBothWays {C} {K} lib arity =
     (control : Control C (Unit {0}) K) → IsOrderly arity control → HasNothing control ↔ HoldsNothing (machine_of lib control)
 
--- An event ends nothing, and what the machine asks of it beside a replay is so: a register of one content, with as many children as it
--- wants; an ask whose goal is defined on the trees of what is mentioned; a copy, a stop, a start, or a give-back.
-abbrev pub EndsNothing : {C K : Type 0} → Meanings C K → (C → ℕ) → Machine C K → List C → Event K → Type 0
-EndsNothing {C} {K} lib arity before contents (Register caller id children) = (content : C) × (contents ≡ content ∷ []) × (length children ≡ arity content)
-EndsNothing lib arity before contents (Copy caller from to) = Unit {0}
-EndsNothing lib arity before contents (Delete caller id) = ⊥
-EndsNothing lib arity before contents (Ask caller number kind inputs) = lib.defined kind (each (tree_named before) inputs)
-EndsNothing lib arity before contents (Collect caller number got) = ⊥
-EndsNothing lib arity before contents (Abandon caller) = ⊥
-EndsNothing lib arity before contents (Stop caller) = Unit {0}
-EndsNothing lib arity before contents (Start worker number) = Unit {0}
-EndsNothing lib arity before contents (GiveBack worker number) = Unit {0}
-EndsNothing lib arity before contents (Finish worker number chunks tasks result) = ⊥
+-- What the machine asks of an event beside what a replay asks, where contents are registered in order: a register is of one content, with
+-- as many children as it wants; the goal of an ask is defined on the trees of what is mentioned; and a finish is by an outcome that is
+-- sound for its task, with these contents in its chunks.
+abbrev pub IsAsWanted : {C K : Type 0} → Meanings C K → (C → ℕ) → Machine C K → List C → Event K → Type 0
+IsAsWanted {C} {K} lib arity before contents (Register caller id children) = (content : C) × (contents ≡ content ∷ []) × (length children ≡ arity content)
+IsAsWanted lib arity before contents (Copy caller from to) = Unit {0}
+IsAsWanted lib arity before contents (Delete caller id) = Unit {0}
+IsAsWanted lib arity before contents (Ask caller number kind inputs) = lib.defined kind (each (tree_named before) inputs)
+IsAsWanted lib arity before contents (Collect caller number got) = Unit {0}
+IsAsWanted lib arity before contents (Abandon caller) = Unit {0}
+IsAsWanted lib arity before contents (Stop caller) = Unit {0}
+IsAsWanted lib arity before contents (Start worker number) = Unit {0}
+IsAsWanted lib arity before contents (GiveBack worker number) = Unit {0}
+IsAsWanted {C} {K} lib arity before contents (Finish worker number chunks tasks result) =
+    (unfinished : Unfinished (Tree C) K) × (outcome : Outcome C K) × (task_at before.graph number ≡ Some unfinished)
+    × (each (λ (chunk : NewChunk C). chunk.body) outcome.chunks ≡ contents)
+    × (each (λ (chunk : NewChunk C). chunk.children) outcome.chunks ≡ chunks) × (outcome.tasks ≡ tasks) × (outcome.result ≡ result)
+    × IsSound arity lib unfinished.kind (input_trees unfinished) outcome
 
--- such an event, where it is allowed, is the step of the machine of its name between the states that are stood for
+-- Such an event, where it is allowed, is the step of the machine of its name between the states that are stood for.
 abbrev pub StandsStep : {C K : Type 0} → Meanings C K → (C → ℕ) → Plans K → Type 0
 StandsStep {C} {K} lib arity plans =
     (control : Control C (Unit {0}) K) (contents : List C) (event : Event K) → IsOrderly arity control → HoldsTogether lib (machine_of lib control)
-    → EndsNothing lib arity (machine_of lib control) contents event → is_allowed plans (forgotten arity control) event ≡ true
+    → IsAsWanted lib arity (machine_of lib control) contents event → is_allowed plans (forgotten arity control) event ≡ true
     → IsStep lib arity (machine_of lib control) event (machine_of lib (tidied (effect_with control contents event)))
+
+-- such an event, where it is allowed, leaves a control state that is in order
+abbrev pub KeepsOrder : {C K : Type 0} → Meanings C K → (C → ℕ) → Plans K → Type 0
+KeepsOrder {C} {K} lib arity plans =
+    (control : Control C (Unit {0}) K) (contents : List C) (event : Event K) → IsOrderly arity control → HoldsTogether lib (machine_of lib control)
+    → IsAsWanted lib arity (machine_of lib control) contents event → is_allowed plans (forgotten arity control) event ≡ true
+    → IsOrderly arity (tidied (effect_with control contents event))
+
+-- the opening state is in order
+abbrev pub OpeningIsOrderly : {C : Type 0} → Type 0 → (C → ℕ) → Type 0
+OpeningIsOrderly {C} K arity = IsOrderly arity (no_control {B = C} {G = Unit {0}} {K = K})
+
+-- ---- A control state and its events
+
+-- A control state with contents comes of a list of events: it is in order, the legal run of these events leads to the state that it
+-- stands for, and a replay of them leads to it without its contents.
+pub record ComesOf {C K : Type 0} (lib : Meanings C K) (arity : C → ℕ) (plans : Plans K) (events : List (Event K)) (control : Control C (Unit {0}) K) : Type 0 where
+  pub ordered : IsOrderly arity control
+  pub run : IsLegalRun lib arity events (machine_of lib control)
+  pub replayed : replay plans events ≡ Some (forgotten arity control)
+
+-- the opening state comes of no events
+abbrev pub OpeningComesOfNone : {C K : Type 0} → Meanings C K → (C → ℕ) → Plans K → Type 0
+OpeningComesOfNone {C} {K} lib arity plans = ComesOf lib arity plans [] (no_control {B = C} {G = Unit {0}} {K = K})
+
+-- where a control state comes of some events, and one more is allowed there and is as the machine wants it, with as many contents as it
+-- tells, the state after it comes of all of them
+abbrev pub EventsLeadOn : {C K : Type 0} → Meanings C K → (C → ℕ) → Plans K → Type 0
+EventsLeadOn {C} {K} lib arity plans =
+    (events : List (Event K)) (control : Control C (Unit {0}) K) (contents : List C) (event : Event K) → ComesOf lib arity plans events control
+    → IsAsWanted lib arity (machine_of lib control) contents event → each arity contents ≡ arities event → is_allowed plans (forgotten arity control) event ≡ true
+    → ComesOf lib arity plans (events ++ event ∷ []) (tidied (effect_with control contents event))

@@ -1,19 +1,21 @@
 -- The state of the machine that a control state with contents stands for.
-use Rattle.std.specs.Prelude.{◌≡◌, ℕ, ◌==◌, ◌≤◌, Bool, false, slice_get, IsSome, if◌then◌else◌, List, [], ◌∷◌, map as each, Option, None, Some}
+use Rattle.std.specs.Prelude.{◌≡◌, ℕ, ◌==◌, ◌≤◌, Bool, false, if◌then◌else◌, List, [], ◌∷◌, map as each, Option, None, Some}
 use Rattle.std.specs.Option.{option_map}
 use Rattle.std.specs.List.{list_any}
 use Rattle.std.specs.Ordering.{nat_cmp}
 use Rattle.std.specs.FinMap as map
+use Rattle.cht_ids.specs.declared.refs.Id.{Id}
 use Rattle.cht_ids.specs.declared.refs.Ref.{Ref}
+use Rattle.cht_ids.specs.declared.refs.Ref.TheVariants.{Null, Id as Held}
 use Rattle.task_types.specs.Tree.{Tree}
 use Rattle.task_types.specs.Meanings.{Meanings}
 use Rattle.name_states.specs.declared.holder.Holder.{Holder}
 use Rattle.name_states.specs.declared.holder.Holder.TheVariants.{Caller, Task, Body}
-use Rattle.name_states.specs.States.{NameState, IdRecord, id_at, IsLiveRef, live_ids, live_bodies}
+use Rattle.name_states.specs.States.{NameState, IdRecord, id_at, holder_of, live_ids, live_bodies}
 use Rattle.name_states.specs.Rules.{IsSound, AreReached, AreWithin}
 use Rattle.name_states.specs.Trees.{body_tree, tree_of}
 use Rattle.task_states.specs.Maps.{chosen}
-use Rattle.task_states.specs.States.{Input, Known, Awaits, Unfinished, Graph, task_at, is_stopped}
+use Rattle.task_states.specs.States.{Input, Known, Awaits, Unfinished, Graph, input_at, is_stopped}
 use Rattle.name_machine.specs.States.{Machine, Holding, Ask}
 use Rattle.name_machine.specs.Goals.{goal_within}
 use Rattle.name_machine.specs.Control.{Control, is_uncollected}
@@ -106,19 +108,64 @@ module _ {C K : Type 0} (lib : Meanings C K) where
         graph = graph;
       }
 
+-- ---- What holds of a control state with contents after each event
+
+-- a reference is null, or has this number
+abbrev pub HasNumber : ℕ → Ref → Type 0
+HasNumber number Null = Unit {0}
+HasNumber number (Held id) = id.number ≡ number
+
+-- nothing was delivered, or null was
+abbrev pub HasNoOutput : Option Ref → Type 0
+HasNoOutput None = Unit {0}
+HasNoOutput (Some Null) = Unit {0}
+HasNoOutput (Some (Held id)) = ⊥
+
+-- a reference is null, or a live identifier with this holder
+abbrev pub IsRefOf : {C : Type 0} → NameState C → Holder → Ref → Type 0
+IsRefOf names holder Null = Unit {0}
+IsRefOf names holder (Held id) = holder_of names id ≡ Some holder
+
+module _ {K : Type 0} where
+  -- an identifier is a known input of a task, at some place
+  abbrev pub IsInputOf : Graph Ref K → ℕ → Id → Type 0
+  IsInputOf graph task id = (place : ℕ) × (input_at graph task place ≡ Some (Known (Held id)))
+
+  -- an input of some task awaits under a number
+  abbrev pub AwaitsUnder : Graph Ref K → ℕ → Type 0
+  AwaitsUnder graph number = (task place awaited : ℕ) × (input_at graph task place ≡ Some (Awaits awaited number))
+
 module _ {C K : Type 0} where
-  -- What holds of a control state with contents after each event: the rules of names hold, every body is reached, and no number is
-  -- greater than what was drawn; inputs that are known and outputs that were delivered are null or live; a task that holds an identifier
-  -- is unfinished; numbers of outputs were drawn.
+  -- Who holds what: a known input is null or an identifier that its task holds, no two places of a task have one number, and a task
+  -- holds nothing but its inputs; an output that was delivered is null or an identifier that its caller holds, with the number that
+  -- was drawn for it.
+  pub record AreHeldRightly (control : Control C (Unit {0}) K) : Type 0 where
+    pub inputs : (task place : ℕ) (r : Ref) → input_at control.graph task place ≡ Some (Known r) → IsRefOf control.names (Task task) r
+    pub apart : (task place other : ℕ) (one two : Id) → input_at control.graph task place ≡ Some (Known (Held one))
+        → input_at control.graph task other ≡ Some (Known (Held two)) → one.number ≡ two.number → place ≡ other
+    pub nothing_else : (number task : ℕ) (entry : IdRecord) → id_at control.names number ≡ Some entry → entry.holder ≡ Task task
+        → IsInputOf control.graph task (record { owner = entry.owner; number = number })
+    pub outputs : (task : ℕ) (ask : Ask (Unit {0}) Ref) (r : Ref) → map.get control.asks task ≡ Some ask → ask.delivered ≡ Some r
+        → IsRefOf control.names (Caller ask.caller) r × HasNumber ask.number r
+
+  -- Numbers that were drawn for copies: a copy that is still to be made, and an output that is null, have no live identifier under
+  -- their number; no number is above what was drawn; and each stands at one place, under one awaiting input or in one ask.
+  pub record AreSetAside (control : Control C (Unit {0}) K) : Type 0 where
+    pub inputs : (number : ℕ) → AwaitsUnder control.graph number → (number ≤ control.drawn) × (id_at control.names number ≡ None)
+    pub outputs : (task : ℕ) (ask : Ask (Unit {0}) Ref) → map.get control.asks task ≡ Some ask → HasNoOutput ask.delivered → id_at control.names ask.number ≡ None
+    pub drawn : (task : ℕ) (ask : Ask (Unit {0}) Ref) → map.get control.asks task ≡ Some ask → ask.number ≤ control.drawn
+    pub one_place : (task place awaited other place_of_other awaited_by_other number : ℕ) → input_at control.graph task place ≡ Some (Awaits awaited number)
+        → input_at control.graph other place_of_other ≡ Some (Awaits awaited_by_other number) → (task ≡ other) × (place ≡ place_of_other)
+    pub unasked : (key : ℕ) (ask : Ask (Unit {0}) Ref) → map.get control.asks key ≡ Some ask → AwaitsUnder control.graph ask.number → ⊥
+
+  -- The rules of names hold, every body is reached, and no number is greater than what was drawn; who holds what is right, and so are
+  -- the numbers that are still to be used.
   pub record IsOrderly (arity : C → ℕ) (control : Control C (Unit {0}) K) : Type 0 where
     pub sound : IsSound arity control.names
     pub reached : AreReached control.names
     pub within : AreWithin control.names control.drawn
-    pub inputs : (task place : ℕ) (unfinished : Unfinished Ref K) (r : Ref) → task_at control.graph task ≡ Some unfinished
-        → slice_get unfinished.inputs place ≡ Some (Known r) → IsLiveRef control.names r
-    pub outputs : (task : ℕ) (ask : Ask (Unit {0}) Ref) (r : Ref) → map.get control.asks task ≡ Some ask → ask.delivered ≡ Some r → IsLiveRef control.names r
-    pub holders : (number task : ℕ) (entry : IdRecord) → id_at control.names number ≡ Some entry → entry.holder ≡ Task task → IsSome (task_at control.graph task)
-    pub asked : (task : ℕ) (ask : Ask (Unit {0}) Ref) → map.get control.asks task ≡ Some ask → ask.number ≤ control.drawn
+    pub held : AreHeldRightly control
+    pub aside : AreSetAside control
 
 -- nothing is live, registered, asked or unfinished, and nobody is stopped
 abbrev pub HasNothing : {C K : Type 0} → Control C (Unit {0}) K → Type 0

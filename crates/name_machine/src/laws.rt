@@ -2,9 +2,10 @@
 //! `specs/Laws.antt` states.
 
 ghost use Rattle.std.specs.Prelude.{ℕ};
+ghost use Rattle.name_machine.specs.Example.{TakesExample};
 ghost use Rattle.name_machine.specs.Forgetting.{ForgettingReplays};
 ghost use Rattle.name_machine.specs.Replay.{Plans};
-ghost use Rattle.name_machine.specs.Laws.{AccountsChange, LeavesCallers, LeavesWorkers, FactsHold, StopsAreLast, StopsEnd, FinishedOnce, RefusesStrange, DeadIsStrange, OthersAreStrange, UncollectedIsStrange, RefusesOutOfTurn, RefusesNotReady, RefusesSecondStart, RefusesUnplanned, OpeningStands, EmptyBothWays, StandsStep};
+ghost use Rattle.name_machine.specs.Laws.{AccountsChange, LeavesCallers, LeavesWorkers, FactsHold, StopsAreLast, StopsEnd, FinishedOnce, RefusesStrange, DeadIsStrange, OthersAreStrange, UncollectedIsStrange, RefusesOutOfTurn, RefusesNotReady, RefusesSecondStart, RefusesUnplanned, OpeningStands, EmptyBothWays, StandsStep, OpeningIsOrderly, KeepsOrder, OpeningComesOfNone, EventsLeadOn};
 
 use task_types::Library;
 
@@ -59,10 +60,30 @@ pub fn forgetting_replays<C, K>()
 {}
 
 /// What a control state with contents stands for: the opening state stands for the opening state; it has nothing in
-/// it exactly where what it stands for has nothing; and a register, a copy, an ask, a stop, a start and a give-back are
-/// the machine's steps between the states that are stood for.
+/// it exactly where what it stands for has nothing; and each event that a replay allows, and that is as the machine
+/// wants it, is the machine's step of its name between the states that are stood for.
 pub fn standing<L: Library>()
     ensures opening { OpeningStands L.meanings }
     ensures empty { EmptyBothWays L.meanings L.Chunk.arity }
     ensures steps { (plans : Plans L.Kind) → StandsStep L.meanings L.Chunk.arity plans }
+{}
+
+/// A control state with contents stays in order: the opening state is, and each such event leaves it so.
+pub fn order<L: Library>()
+    ensures opening { OpeningIsOrderly L.Kind L.Chunk.arity }
+    ensures steps { (plans : Plans L.Kind) → KeepsOrder L.meanings L.Chunk.arity plans }
+{}
+
+/// A control state with contents and the events that led to it: the opening state comes of no events, and after each
+/// further event, where it is allowed and as the machine wants it, the state is in order, stands for the state that the
+/// legal run of all events leads to, and is without its contents what a replay of them leads to.
+pub fn events_lead<L: Library>()
+    ensures opening { (plans : Plans L.Kind) → OpeningComesOfNone L.meanings L.Chunk.arity plans }
+    ensures steps { (plans : Plans L.Kind) → EventsLeadOn L.meanings L.Chunk.arity plans }
+{}
+
+/// A replay takes the eleven events of the worked example, whatever the plans are, so long as they allow the shape of
+/// the one finish; it has then drawn nine numbers, and nothing is left.
+pub fn takes_example<K>()
+    ensures { (plans : Plans K) → TakesExample plans }
 {}

@@ -4,6 +4,6 @@
 mod laws;
 
 pub use laws::{
-    accounts_change, facts_hold, finished_once, forgetting_replays, parts_stay, refusals, standing,
-    stops,
+    accounts_change, events_lead, facts_hold, finished_once, forgetting_replays, order, parts_stay,
+    refusals, standing, stops, takes_example,
 };
