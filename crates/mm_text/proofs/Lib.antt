@@ -11,3 +11,4 @@ pub mod MatrixRead
 pub mod Told
 pub mod Repeats
 pub mod Verdicts
+pub mod Placed

@@ -1,5 +1,5 @@
 -- What a read of a block answers: the block of the definition, or its fault.
-use Rattle.std.specs.Prelude.{◌≡◌, ℕ, ◌≤◌, List, length, drop, Ok, Err}
+use Rattle.std.specs.Prelude.{◌≡◌, ℕ, ◌+◌, ◌≤◌, List, length, drop, Ok, Err}
 use Rattle.mm_text.specs.declared.market.Market.{Market}
 use Rattle.mm_text.specs.declared.market.MarketRead.{MarketRead}
 use Rattle.mm_text.specs.declared.market.MarketRefused.{MarketRefused}
@@ -29,3 +29,8 @@ pub record IsBlockRead (grid : ℕ) (text : List ℕ) (read : MarketRead) : Type
 abbrev pub IsBlockRefused : ℕ → List ℕ → MarketRefused → Type 0
 IsBlockRefused grid text refusals.Memory = Unit {0}
 IsBlockRefused grid text (refusals.Fault fault) = block_in grid (lines_of text) ≡ Err fault
+
+-- the line of a fault is one of the text, or the line after its last
+abbrev pub IsPlaced : List ℕ → MarketRefused → Type 0
+IsPlaced text refusals.Memory = Unit {0}
+IsPlaced text (refusals.Fault fault) = (1 ≤ fault.line) × (fault.line ≤ 1 + length (lines_of text))

@@ -1,5 +1,5 @@
 ghost use Rattle.std.specs.Prelude.{IfOk, IfErr};
-ghost use Rattle.mm_text.specs.Reading.{IsBlockRead, IsBlockRefused};
+ghost use Rattle.mm_text.specs.Reading.{IsBlockRead, IsBlockRefused, IsPlaced};
 
 use crate::codes::REPEATED;
 use crate::entries::{Gathered, read_entries};
@@ -23,6 +23,7 @@ use std::alloc::Global;
 pub fn read_market(alloc: Global, bytes: &[u8], grid: u32) -> Result<MarketRead, MarketRefused>
     ensures found { IfOk result (λ read. IsBlockRead grid bytes.now read) }
     ensures fault { IfErr result (λ refused. IsBlockRefused grid bytes.now refused) }
+    ensures line { IfErr result (λ refused. IsPlaced bytes.now refused) }
 {
     let head = read_head(grid, bytes)?;
     let Gathered {

@@ -1,10 +1,12 @@
 use Rattle.std.proofs.Common.{sym, ap, ◌∙◌, refl, arith}
 use Rattle.std.specs.List.{filter}
+use Rattle.std.proofs.lemmas.Result.{err_from_is_err_and}
 use Rattle.mm_text.specs.Lines.{lines_of}
 use Rattle.mm_text.specs.Cells.{entry_cells}
 use Rattle.mm_text.specs.Places.{entries_of, is_number}
 use Rattle.mm_text.specs.Steps.{sizes_told}
 use Rattle.mm_text.proofs.Cursors.{Passes-then, Passes-count, lines_left}
+use Rattle.mm_text.proofs.Placed.{fault_placed}
 use Rattle.mm_text.proofs.Verdicts.{Listing, listed_all, repeat_told, stop_told, block_told, block_cells}
 use Rattle.mm_text.proofs.reading.read_market.Goals as goal
 
@@ -51,3 +53,14 @@ returns-clause-found c =
       within = omega arith;
       behind = lines_left end.passed text end.rest.now passes;
     }
+
+pub returns-in_err-head-clause-line : goal.returns-in_err-head-clause-line
+returns-in_err-head-clause-line c =
+    let p = err_from_is_err_and c.from_residual.result c.from_residual.ensures.1 in
+    rw (p.1, p.2) (fault_placed c.args.grid (lines_of c.args.bytes.now) _ c.in_err-head.ensures.fault)
+
+pub returns-in-Some-clause-line : goal.returns-in-Some-clause-line
+returns-in-Some-clause-line c = fault_placed c.args.grid (lines_of c.args.bytes.now) _ (returns-in-Some-clause-fault c)
+
+pub returns-in-Some-stop-clause-line : goal.returns-in-Some-stop-clause-line
+returns-in-Some-stop-clause-line c = fault_placed c.args.grid (lines_of c.args.bytes.now) _ (returns-in-Some-stop-clause-fault c)
