@@ -1,36 +1,51 @@
 ghost use Rattle.std.specs.Prelude.{IfOk, IfErr};
-ghost use Rattle.mm_text.specs.Reading.{IsBlockRead, IsBlockRefused};
+ghost use Rattle.mm_text.specs.Reading.{IsBlockRead, IsBlockRefused, IsPlaced};
 
-use crate::entries::read_entries;
+use crate::codes::REPEATED;
+use crate::entries::{Gathered, read_entries};
 use crate::head::read_head;
-use crate::market::{Form, Market, MarketRead, MarketRefused};
-use crate::places::{drop_zeros, sort_by_place};
+use crate::market::{Market, MarketFault, MarketRead, MarketRefused};
+use crate::places::{numbers, sort_by_place};
 use cht_ids::List;
 use std::alloc::Global;
 
-/// Reads the block at the front of the bytes: a banner of the general form in any ASCII case, the line
-/// `rows columns entries`, and that many lines `row column value`. A line feed ends each line, or a carriage return and
-/// a line feed; the last line may end without. Words stand between spaces and tabs. Comments, which begin with `%`, may
-/// stand between the banner and the size line, and blank lines anywhere behind the banner.
+/// Reads the block at the front of the bytes: a banner in any ASCII case, the line `rows columns entries`, and that many
+/// lines `row column value`. A line feed ends each line, or a carriage return and a line feed; the last line may end
+/// without. Words stand between spaces and tabs. Comments, which begin with `%`, may stand between the banner and the
+/// size line, and blank lines anywhere behind the banner.
 ///
 /// Rows and columns lie from 1 to the grid. Entries come in any order and name no place twice; zeros count as entries
-/// and are dropped. The entries that are answered count from 1 and stand by row and then by column. Lines and bytes are
-/// counted up to the last entry line, or the size line where there is none, with its line feed.
+/// and are dropped. A symmetric block is square, and lists places on or below the diagonal. The entries that are
+/// answered count from 1 and stand by row and then by column; those of a symmetric block stay on and below the diagonal.
+/// Lines and bytes are counted up to the last entry line, or the size line where there is none, with its line feed.
+///
+/// A fault is the first line that breaks a rule, counted from 1 at the banner, with the least code there.
 pub fn read_market(alloc: Global, bytes: &[u8], grid: u32) -> Result<MarketRead, MarketRefused>
     ensures found { IfOk result (λ read. IsBlockRead grid bytes.now read) }
     ensures fault { IfErr result (λ refused. IsBlockRefused grid bytes.now refused) }
+    ensures line { IfErr result (λ refused. IsPlaced bytes.now refused) }
 {
-    let (sizes, behind_sizes) = read_head(grid, bytes).ok_or(MarketRefused::NO_BLOCK)?;
-    let (mut entries, end) = read_entries(alloc, sizes, behind_sizes)?;
-    if !sort_by_place(&mut entries) {
-        return Err(MarketRefused::NO_BLOCK);
+    let head = read_head(grid, bytes)?;
+    let Gathered {
+        mut listed,
+        stop,
+        end,
+    } = read_entries(alloc, head.form, head.sizes, head.behind)?;
+    if let Some(line) = sort_by_place(&mut listed) {
+        return Err(MarketRefused::Fault(MarketFault {
+            line,
+            code: REPEATED,
+        }));
     }
-    drop_zeros(&mut entries);
+    if let Some(fault) = stop {
+        return Err(MarketRefused::Fault(fault));
+    }
+    let entries = numbers(alloc, &listed)?;
     Ok(MarketRead {
         market: Market {
-            form: Form::General,
-            rows: sizes.rows,
-            columns: sizes.columns,
+            form: head.form,
+            rows: head.sizes.rows,
+            columns: head.sizes.columns,
             entries: List::from_vec(entries),
         },
         lines: end.passed,

@@ -1,63 +1,66 @@
-use Rattle.std.proofs.Common.{take, sym, ap, ◌∙◌, refl, arith}
+use Rattle.std.proofs.Common.{sym, ap, ◌∙◌, refl, arith}
+use Rattle.std.specs.List.{filter}
 use Rattle.std.proofs.lemmas.Result.{err_from_is_err_and}
-use Rattle.mm_text.specs.declared.market.Form.TheVariants.{General}
-use Rattle.mm_text.specs.Block.{last_number}
+use Rattle.mm_text.specs.Lines.{lines_of}
 use Rattle.mm_text.specs.Cells.{entry_cells}
-use Rattle.mm_text.specs.Steps.{sizes_told, lines_behind, filled}
-use Rattle.mm_text.proofs.Cursors.{Passes-then, lines_left}
-use Rattle.mm_text.proofs.MatrixRead.{columns-within, market_cells}
-use Rattle.mm_text.proofs.Rules.{refused_entries, refused_repeats, block_read}
+use Rattle.mm_text.specs.Places.{entries_of, is_number}
+use Rattle.mm_text.specs.Steps.{sizes_told}
+use Rattle.mm_text.proofs.Cursors.{Passes-then, Passes-count, lines_left}
+use Rattle.mm_text.proofs.Placed.{fault_placed}
+use Rattle.mm_text.proofs.Verdicts.{Listing, listed_all, repeat_told, stop_told, block_told, block_cells}
 use Rattle.mm_text.proofs.reading.read_market.Goals as goal
-
-pub returns-in_err-entries-clause-fault : goal.returns-in_err-entries-clause-fault
-returns-in_err-entries-clause-fault c =
-    let p = err_from_is_err_and c.from_residual-in_err-entries.result c.from_residual-in_err-entries.ensures.1 in
-    let head = rw c.in_ok-sizes.ensures.ok_part at c.read_head.ensures.head in
-    rw (p.1, p.2)
-    (refused_entries c.args.grid c.args.bytes.now (sizes_told c.in_ok-sizes.sizes) c.in_ok-sizes.behind_sizes.passed
-    (lines_behind c.in_ok-sizes.behind_sizes.passed c.in_ok-sizes.behind_sizes.rest.now) c.in_err-entries.field-0.0 head c.in_err-entries.ensures.refused)
 
 pub sort_by_place-requires : goal.sort_by_place-requires
 sort_by_place-requires c =
-    let narrow = rw c.in_ok-sizes.ensures.ok_part at c.read_head.ensures.narrow in
-    columns-within (sizes_told c.in_ok-sizes.sizes) (filled (lines_behind c.in_ok-sizes.behind_sizes.passed c.in_ok-sizes.behind_sizes.rest.now)) c.in_ok-entries.entries.items narrow
-    c.in_ok-entries.ensures.entries
+    let few = Passes-count _ _ _ _ c.in_ok-head.ensures.passes in
+    listed_all c.in_ok-head.head.form (sizes_told c.in_ok-head.head.sizes) c.in_ok-head.head.behind.passed c.in_ok-head.head.behind.rest.now c.in_ok-listed.field-0.listed.items c.in_ok-listed.field-0.stop
+    c.in_ok-head.ensures.narrow (omega (arith, few)) c.in_ok-listed.ensures.entries
 
-pub returns-then-not-sort_by_place-clause-fault : goal.returns-then-not-sort_by_place-clause-fault
-returns-then-not-sort_by_place-clause-fault c =
-    let head = rw c.in_ok-sizes.ensures.ok_part at c.read_head.ensures.head in (
-      refl,
-      refused_repeats c.args.grid c.args.bytes.now (sizes_told c.in_ok-sizes.sizes) c.in_ok-sizes.behind_sizes.passed
-          (lines_behind c.in_ok-sizes.behind_sizes.passed c.in_ok-sizes.behind_sizes.rest.now) c.in_ok-entries.entries.items head c.in_ok-entries.ensures.entries
-          (sym c.sort_by_place.ensures.apart ∙ c.if-not-sort_by_place.true),
-    )
+pub returns-in-Some-clause-fault : goal.returns-in-Some-clause-fault
+returns-in-Some-clause-fault c =
+    repeat_told c.args.grid (lines_of c.args.bytes.now) c.in_ok-head.head.form (sizes_told c.in_ok-head.head.sizes) c.in_ok-head.head.behind.passed c.in_ok-head.head.behind.rest.now
+    c.in_ok-listed.field-0.listed.items c.in_ok-listed.field-0.stop c.in-Some.line c.in_ok-head.ensures.head c.in_ok-listed.ensures.entries (sym c.in-Some.ensures.repeat)
+
+pub returns-in-Some-stop-clause-fault : goal.returns-in-Some-stop-clause-fault
+returns-in-Some-stop-clause-fault c =
+    stop_told c.args.grid (lines_of c.args.bytes.now) c.in_ok-head.head.form (sizes_told c.in_ok-head.head.sizes) c.in_ok-head.head.behind.passed c.in_ok-head.head.behind.rest.now
+    c.in_ok-listed.field-0.listed.items c.in-Some-stop.fault c.in_ok-head.ensures.head (rw c.in-Some-stop.is at c.in_ok-listed.ensures.entries) (sym c.in_default.ensures.repeat)
 
 pub returns-clause-found : goal.returns-clause-found
 returns-clause-found c =
     let text = c.args.bytes.now in
-    let sizes = sizes_told c.in_ok-sizes.sizes in
-    let n = c.in_ok-sizes.behind_sizes.passed in
-    let behind = lines_behind n c.in_ok-sizes.behind_sizes.rest.now in
-    let es = c.in_ok-entries.entries.items in
-    let fs = c.sort_by_place.new.entries.items in
-    let head = rw c.in_ok-sizes.ensures.ok_part at c.read_head.ensures.head in
-    let first = rw c.in_ok-sizes.ensures.ok_part at c.read_head.ensures.passes in
-    let narrow = rw c.in_ok-sizes.ensures.ok_part at c.read_head.ensures.narrow in
-    let passes = Passes-then 0 n c.in_ok-entries.end.passed text _ c.in_ok-entries.end.rest.now first c.in_ok-entries.ensures.passes in
-    let read = c.in_ok-entries.ensures.entries in
-    let apart = sym c.sort_by_place.ensures.apart ∙ c.if-not-sort_by_place.false in
-    let rises = sym c.sort_by_place.ensures.rising ∙ c.if-not-sort_by_place.false in
+    let head = c.in_ok-head.head in
+    let sizes = sizes_told head.sizes in
+    let n = head.behind.passed in
+    let rest = head.behind.rest.now in
+    let listed = c.in_ok-listed.field-0.listed.items in
+    let end = c.in_ok-listed.field-0.end in
+    let sorted = c.sort_by_place.new.listed.items in
+    let few = Passes-count _ _ _ _ c.in_ok-head.ensures.passes in
+    let gathered = rw c.in_default-stop.is at c.in_ok-listed.ensures.entries in
+    let passes = Passes-then 0 n end.passed text rest end.rest.now c.in_ok-head.ensures.passes c.in_ok-listed.ensures.passes in
     record {
-      block = record { form = General; sizes = sizes; entries = es; lines = last_number n (take sizes.entries (filled behind)) };
-      found = block_read c.args.grid text sizes n behind es head read apart;
-      general = refl;
+      block = Listing head.form sizes n listed;
+      found = block_told c.args.grid (lines_of text) head.form sizes n rest listed c.in_ok-head.ensures.head gathered (sym c.in_default.ensures.repeat);
       market = record {
         form = refl;
         rows = refl;
         columns = refl;
-        entries = ap entry_cells (c.from_vec.ensures ∙ c.drop_zeros.ensures) ∙ market_cells sizes (filled behind) es fs (last_number n (take sizes.entries (filled behind))) narrow read c.sort_by_place.ensures.same apart rises;
+        entries = ap entry_cells (c.from_vec.ensures ∙ c.in_ok-entries.ensures.entries ∙ ap (λ xs. filter is_number (entries_of xs)) c.deref.ensures.value)
+            ∙ block_cells head.form sizes n rest listed sorted c.in_ok-head.ensures.narrow (omega (arith, few)) gathered c.sort_by_place.ensures.same (c.in_default.ensures.rising refl);
       };
-      lines = c.in_ok-entries.ensures.last;
+      lines = c.in_ok-listed.ensures.last;
       within = omega arith;
-      behind = lines_left c.in_ok-entries.end.passed text c.in_ok-entries.end.rest.now passes;
+      behind = lines_left end.passed text end.rest.now passes;
     }
+
+pub returns-in_err-head-clause-line : goal.returns-in_err-head-clause-line
+returns-in_err-head-clause-line c =
+    let p = err_from_is_err_and c.from_residual.result c.from_residual.ensures.1 in
+    rw (p.1, p.2) (fault_placed c.args.grid (lines_of c.args.bytes.now) _ c.in_err-head.ensures.fault)
+
+pub returns-in-Some-clause-line : goal.returns-in-Some-clause-line
+returns-in-Some-clause-line c = fault_placed c.args.grid (lines_of c.args.bytes.now) _ (returns-in-Some-clause-fault c)
+
+pub returns-in-Some-stop-clause-line : goal.returns-in-Some-stop-clause-line
+returns-in-Some-stop-clause-line c = fault_placed c.args.grid (lines_of c.args.bytes.now) _ (returns-in-Some-stop-clause-fault c)
