@@ -1,5 +1,5 @@
 -- The two factors of a product.
-use Rattle.std.proofs.Common.{◌≡◌, ℕ, ◌≤◌, false, List, [], ◌∷◌, map, refl, sym, subst, inl}
+use Rattle.std.proofs.Common.{◌≡◌, ℕ, ◌≤◌, false, List, [], ◌∷◌, refl, sym, subst, inl}
 use Rattle.std.proofs.lemmas.Bool.{false≢true, le-leb}
 use Rattle.task_types.specs.Tree.{Tree}
 use Rattle.task_types.specs.Presence.{Presence, Absent, Present, all_present}

@@ -1,12 +1,12 @@
 -- What products and transposes of leaves answer is sound.
-use Rattle.std.proofs.Common.{◌≡◌, ℕ, zero, suc, ◌≤◌, Bool, true, Option, None, Some, List, [], ◌∷◌, map, refl, sym, ap, ap₂, ◌∙◌, subst, subst₂, inl, inr, arith}
+use Rattle.std.proofs.Common.{◌≡◌, ℕ, ◌≤◌, Bool, true, Option, None, List, [], ◌∷◌, refl, sym, ap, ap₂, ◌∙◌, subst, subst₂, inl, inr, arith}
 use Rattle.std.proofs.lemmas.Bool.{false≢true}
 use Rattle.dense_def.specs.Matrix.{Matrix, height, transposed}
 use Rattle.task_types.specs.declared.outcome.Outcome.{Outcome}
 use Rattle.task_types.specs.declared.outcome.Place.TheVariants.{Null}
 use Rattle.task_types.specs.declared.inputs.Inputs.{Inputs}
 use Rattle.task_types.specs.Tree.{Tree, Nothing, Root}
-use Rattle.task_types.specs.Presence.{Presence, Present, presence_of, all_present}
+use Rattle.task_types.specs.Presence.{Present, presence_of, all_present}
 use Rattle.task_types.specs.Shown.{view_of, Shows, presences_in}
 use Rattle.task_types.specs.Places.{IsOneOf}
 use Rattle.task_types.specs.Sound.{IsSound}
@@ -23,7 +23,7 @@ use Rattle.quad_matrix.specs.Matrices.{matrices}
 use Rattle.quad_matrix.specs.Plans.{shapes_of}
 use Rattle.quad_matrix.specs.Products.{Turned, Neither, First, Second, product_what, product_of}
 use Rattle.quad_matrix.proofs.ForOthers.{side_low, goal_any, ProductFitsAt, fits_product, product_fits_at, product_goal_is}
-use Rattle.matrix_tasks.specs.Answers.{leaf_shown, leaf_outcome, FactorsAreLeaves, product_answer, IsLeaf, transpose_answer}
+use Rattle.matrix_tasks.specs.Answers.{leaf_shown, FactorsAreLeaves, product_answer, IsLeaf, transpose_answer}
 use Rattle.matrix_tasks.proofs.Simple.{leaf_sound}
 use Rattle.matrix_tasks.proofs.LowBlocks.{shown_leaf}
 use Rattle.matrix_tasks.proofs.Factors.{of_two}

@@ -5,9 +5,8 @@ use Rattle.task_types.specs.Tree.{Tree, Nothing, Root, child, is_there}
 use Rattle.task_types.specs.Presence.{Presence, Absent, presence_of, has_child, all_present}
 use Rattle.task_types.specs.Places.{Shape, IsOneOf}
 use Rattle.task_types.specs.Sound.{IsSound}
-use Rattle.task_types.specs.declared.outcome.Place.TheVariants.{Child}
 use Rattle.task_plans.specs.declared.portions.Portions.{Portions}
-use Rattle.task_plans.specs.Plans.{is_ready, term_on, planned_shape}
+use Rattle.task_plans.specs.Plans.{planned_shape}
 use Rattle.task_plans.specs.Sketches.{planned_outcome}
 use Rattle.task_plans.specs.Steps.{AloneGives, PairGives, PartGives}
 use Rattle.task_plans.proofs.ForOthers.{plan_is_sound}
@@ -21,7 +20,7 @@ use Rattle.quad_matrix.specs.Matrices.{matrices}
 use Rattle.quad_matrix.specs.Products.{Turned, Neither, First, Second, product_what, first_child, second_child, product_part, product_plan}
 use Rattle.quad_matrix.specs.Plans.{plan_of, shapes_of, transpose_part}
 use Rattle.quad_matrix.proofs.ForOthers.{add_canonical, fits_join, add_with_nothing, add_nothing_with, add_nothing, goal_any, child_canonical, child_known}
-use Rattle.quad_matrix.proofs.ForOthers.{product_goal, product_goal_is, ProductFitsAt, fits_product, product_fits_at, product_canonical, product_nothing_with, product_with_nothing, term_tree, quadrant_tree, first_term_fits, second_term_fits, quadrant_fits, product_is_join}
+use Rattle.quad_matrix.proofs.ForOthers.{product_goal, product_goal_is, ProductFitsAt, fits_product, product_fits_at, product_nothing_with, product_with_nothing, term_tree, quadrant_tree, first_term_fits, second_term_fits, quadrant_fits, product_is_join}
 use Rattle.quad_matrix.proofs.ForOthers.{transpose_canonical, transpose_of_nothing, child_turned, transpose_is_join}
 use Rattle.matrix_tasks.proofs.Joins.{shapes_open}
 use Rattle.matrix_tasks.proofs.ByPlan.{may_ask, task_gives, join_gives, parts_below}

@@ -1,23 +1,23 @@
 -- Products of canonical trees, by the children of their factors. All is said once for the three products.
-use Rattle.std.proofs.Common.{◌≡◌, ℕ, zero, suc, ◌*◌, ◌^◌, ◌<◌, ◌≤◌, Bool, true, false, [], ◌∷◌, ◌*ℤ◌, refl, sym, ap, ap₂, ◌∙◌, subst, subst₂, le_trans}
-use Rattle.dense_def.specs.Matrix.{Matrix, height, entry, IsMatrix, sum_below, plus, times, tmul_of, mult_of, transposed, joined, zeros, completed, peak_of, SumFits, PairFits, TmulPairFits, MultPairFits}
+use Rattle.std.proofs.Common.{◌≡◌, ℕ, suc, ◌*◌, ◌^◌, ◌<◌, ◌≤◌, Bool, true, false, [], ◌∷◌, ◌*ℤ◌, refl, sym, ap, ap₂, ◌∙◌, subst, subst₂, le_trans}
+use Rattle.dense_def.specs.Matrix.{Matrix, height, entry, IsMatrix, sum_below, plus, times, transposed, joined, zeros, completed, peak_of, SumFits, PairFits, TmulPairFits, MultPairFits}
 use Rattle.dense_def.proofs.Sums.{magnitudes_bound}
 use Rattle.dense_def.proofs.Entries.{IsMatrix-made}
 use Rattle.dense_def.proofs.Operations.{entry-times, height-times, entry-tmul_of, height-tmul_of, entry-mult_of, height-mult_of, height-transposed, tmul_is, mult_is}
 use Rattle.dense_def.proofs.Blocks.{joined_same}
 use Rattle.dense_def.proofs.Quadrants.{times-joined, tmul_of-joined, mult_of-joined}
-use Rattle.dense_def.proofs.Zeros.{height-zeros, times-zeros, transposed-zeros}
+use Rattle.dense_def.proofs.Zeros.{times-zeros, transposed-zeros}
 use Rattle.dense_def.proofs.Fits.{product_fits_on_quadrants, tmul_fits_on_quadrants, mult_fits_on_quadrants}
 use Rattle.dense_def.proofs.Completed.{times-completed, tmul_of-completed, mult_of-completed, product_fits-completed, tmul_fits-completed, mult_fits-completed}
 use Rattle.leaf_blocks.specs.Block.{IsBlock}
-use Rattle.task_types.specs.Tree.{Tree, Nothing, Root, child}
+use Rattle.task_types.specs.Tree.{Tree, Nothing, child}
 use Rattle.quad_matrix.specs.declared.chunk.MatChunk.{MatChunk}
 use Rattle.quad_matrix.specs.declared.kind.What.TheVariants.{Add, Join}
 use Rattle.chunk_codec.specs.Spots.{side_of}
 use Rattle.quad_matrix.specs.Blocks.{block_of, canonical, IsCanonical}
 use Rattle.quad_matrix.specs.Goals.{goal_at, FitsAt}
 use Rattle.quad_matrix.specs.Products.{Turned, Neither, First, Second, product_what, product_of, FactorsFit, first_child, second_child, inner_size, InnerSizesAgree}
-use Rattle.quad_matrix.proofs.Canonical.{canonical_zero, block_of_canonical, canonical_of_block, nothing_is_canonical, peak-zeros}
+use Rattle.quad_matrix.proofs.Canonical.{canonical_zero, block_of_canonical, canonical_of_block, peak-zeros}
 use Rattle.quad_matrix.proofs.Quadrants.{child_canonical, block_of_quadrants, squares_fit}
 use Rattle.quad_matrix.proofs.Sums.{IsBlock-plus, join_goal}
 

@@ -1,5 +1,5 @@
 -- Transposes of canonical trees, by children.
-use Rattle.std.proofs.Common.{◌≡◌, ℕ, zero, suc, ◌<◌, [], ◌∷◌, refl, sym, ap, ◌∙◌}
+use Rattle.std.proofs.Common.{◌≡◌, ℕ, suc, ◌<◌, [], ◌∷◌, sym, ap, ◌∙◌}
 use Rattle.dense_def.specs.Matrix.{Matrix, height, entry, transposed}
 use Rattle.dense_def.proofs.Entries.{IsMatrix-made}
 use Rattle.dense_def.proofs.Operations.{entry-transposed, height-transposed}

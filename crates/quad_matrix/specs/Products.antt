@@ -1,7 +1,7 @@
 -- The three products of two blocks: of both as they are, with the first one transposed, and with the second one transposed. They have one
 -- plan, over how the children of each factor stand.
-use Rattle.std.specs.Prelude.{◌≡◌, ℕ, ◌*◌, ◌≤◌, ◌^◌, Bool, true, false, List, [], ◌∷◌}
-use Rattle.dense_def.specs.Matrix.{Matrix, height, times, tmul_of, mult_of, ProductFits, TmulFits, MultFits, peak_of}
+use Rattle.std.specs.Prelude.{◌≡◌, ℕ, Bool, true, false, [], ◌∷◌}
+use Rattle.dense_def.specs.Matrix.{Matrix, height, times, tmul_of, mult_of, ProductFits, TmulFits, MultFits}
 use Rattle.task_types.specs.declared.outcome.Place.TheVariants.{Child}
 use Rattle.task_plans.specs.declared.plan.Part.{Part}
 use Rattle.task_plans.specs.declared.plan.Part.TheVariants.{Pair}
