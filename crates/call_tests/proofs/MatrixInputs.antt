@@ -1,9 +1,10 @@
 -- The inputs of the tests show trees on which goals are defined.
-use Rattle.std.proofs.Common.{◌≡◌, ℕ, zero, suc, ◌+◌, ◌*◌, ◌^◌, ◌≤◌, false, List, [], ◌∷◌, refl, sym, ap, ◌∙◌, subst, ⊎_elim, arith, add-one}
-use Rattle.std.specs.Prelude.{if◌then◌else◌, ℤ, unsigned_abs}
-use Rattle.std.proofs.lemmas.Bool.{cond-true, cond-false}
+use Rattle.std.proofs.Common.{◌≡◌, ℕ, zero, suc, ◌+◌, ◌*◌, ◌^◌, ◌≤◌, false, List, [], ◌∷◌, refl, sym, ap, ◌∙◌, subst, ⊎_elim, arith, add-one, le_trans, lit≤}
+use Rattle.std.specs.Prelude.{if◌then◌else◌, ℤ, unsigned_abs, IsTrue}
+use Rattle.std.proofs.lemmas.Bool.{cond-true, cond-false, false≢true}
+use Rattle.std.proofs.Math.Nat.{mul-le-mul}
 use Rattle.dense_def.specs.Matrix.{Matrix, height, peak_of, SumFits, TraceFits}
-use Rattle.dense_def.proofs.Peaks.{sum_fits, trace_fits}
+use Rattle.dense_def.proofs.Peaks.{sum_fits, product_fits, tmul_fits, mult_fits, trace_fits}
 use Rattle.leaf_blocks.specs.Block.{IsBlock}
 use Rattle.task_types.specs.declared.inputs.View.{View}
 use Rattle.task_types.specs.declared.inputs.View.TheVariants as view
@@ -17,7 +18,8 @@ use Rattle.quad_matrix.specs.declared.chunk.MatChunk.{MatChunk}
 use Rattle.quad_matrix.specs.declared.chunk.MatChunk.TheVariants.{Leaf, Node, Num}
 use Rattle.quad_matrix.specs.declared.chunk.MatChunk.TheVariants as chunk
 use Rattle.quad_matrix.specs.declared.chunk.Entries.{Entries}
-use Rattle.quad_matrix.specs.declared.kind.What.TheVariants.{Assign, Add, Join, Trace, AddNum}
+use Rattle.quad_matrix.specs.declared.kind.What.{What}
+use Rattle.quad_matrix.specs.declared.kind.What.TheVariants.{Assign, Add, Mul, TMul, MulT, Transpose, Join, Trace, AddNum}
 use Rattle.chunk_codec.specs.Spots.{side_of, AreSoundSpots}
 use Rattle.chunk_codec.specs.declared.plain.Spot.{Spot}
 use Rattle.quad_matrix.specs.Spots.{AreSoundEntries}
@@ -29,8 +31,8 @@ use Rattle.quad_matrix.proofs.ForOthers.{any_there, join_of, join_peak, join_not
 use Rattle.quad_matrix.proofs.ForOthers.{tree_peak, peak_of_tree}
 use Rattle.quad_matrix.proofs.ForOthers.{fits_join}
 use Rattle.quad_matrix.proofs.ForOthers.{nothing_is_number, number_some}
-use Rattle.matrix_tasks.specs.Answers.{peak_shown, greatest_peak}
-use Rattle.call_tests.specs.MatrixInputs.{ShowsBlock, ShowsNumber, shows_some, over}
+use Rattle.matrix_tasks.specs.Answers.{is_general, peak_shown, greatest_peak}
+use Rattle.call_tests.specs.MatrixInputs.{ShowsBlock, ShowsNumber, shows_some, is_product, over}
 use Rattle.task_plans.proofs.ForOthers.{true_or_false}
 
 -- the peak that a tree shows
@@ -43,7 +45,7 @@ pub nothing_shows : (h : ℕ) → ShowsBlock h view.Nothing
 nothing_shows h = (Nothing, nothing_is_canonical 1 h, omega (arith, peak-zeros (side_of 1 h) (side_of 1 h)), refl)
 
 -- a leaf of side 1 other than zero
-pub leaf_shows : (m : Matrix) (shown : View MatChunk) (side peak : ℕ) → shown ≡ view.There (Leaf m) 0 → IsBlock side m → side ≡ 1 → peak ≡ peak_of m → (peak ≡ 0 → ⊥) → peak ≤ 2 ^ 63
+pub leaf_shows : (m : Matrix) (shown : View MatChunk) (side peak : ℕ) → shown ≡ view.There (Leaf m) 0 → IsBlock side m → side ≡ 1 → peak ≡ peak_of m → (peak ≡ 0 → ⊥) → peak ≤ 2 ^ 62
     → ShowsBlock 0 shown
 leaf_shows m shown side peak is sized one at some small =
     let full : peak_of m ≡ 0 → ⊥ = λ flat. some (at ∙ flat) in
@@ -71,7 +73,7 @@ over_shows h n inputs found drawn e a b c d =
     let sized : IsBlock (side_of 1 (suc h)) m = block_of_join 1 h x y z w a.1 b.1 c.1 d.1 in
     let block : block_of 1 (suc h) tree ≡ m = block_of_canonical 1 (suc h) m sized.whole sized.tall sized.wide in
     let peak : peak_of (block_of 1 (suc h) tree) ≡ join_peak 1 h x y z w = ap peak_of block ∙ peak_of_join 1 h x y z w a.1 b.1 c.1 d.1 in
-    let small : peak_of (block_of 1 (suc h) tree) ≤ 2 ^ 63 = omega (arith, peak, a.2, b.2, c.2, d.2) in
+    let small : peak_of (block_of 1 (suc h) tree) ≤ 2 ^ 62 = omega (arith, peak, a.2, b.2, c.2, d.2) in
     let peaks : greatest_peak inputs ≡ join_peak 1 h x y z w = cc (ap peak_shown a.3 ∙ shown_peak x ∙ peak_of_tree 1 h x a.1, ap peak_shown b.3 ∙ shown_peak y ∙ peak_of_tree 1 h y b.1, ap peak_shown c.3 ∙ shown_peak z ∙ peak_of_tree 1 h z c.1, ap peak_shown d.3 ∙ shown_peak w ∙ peak_of_tree 1 h w d.1) in
     let node : View MatChunk = view.There (Node (suc h) (join_peak 1 h x y z w)) (mask (is_there x) (is_there y) (is_there z) (is_there w)) in
     let same : over (suc h) inputs ≡ (if any_there x y z w then node else view.Nothing) = cc (peaks, ap shows_some a.3 ∙ shows_tree x, ap shows_some b.3 ∙ shows_tree y, ap shows_some c.3 ∙ shows_tree z, ap shows_some d.3 ∙ shows_tree w) in
@@ -83,7 +85,7 @@ over_shows h n inputs found drawn e a b c d =
     subst (ShowsBlock n) (sym drawn) (subst (λ n. ShowsBlock n (over n inputs)) top (tree, is, small, same ∙ shown))
 
 -- a number other than 0
-pub number_shows : (z : ℤ) (shown : View MatChunk) (size : ℕ) → shown ≡ view.There (Num z) 0 → size ≡ unsigned_abs z → (size ≡ 0 → ⊥) → size ≤ 2 ^ 63 → ShowsNumber shown
+pub number_shows : (z : ℤ) (shown : View MatChunk) (size : ℕ) → shown ≡ view.There (Num z) 0 → size ≡ unsigned_abs z → (size ≡ 0 → ⊥) → size ≤ 2 ^ 62 → ShowsNumber shown
 number_shows z shown size is at some small =
     (alone (Num z), record { small = omega arith; same = sym (number_some z (λ flat. some (at ∙ flat))) }, omega arith, is)
 
@@ -120,7 +122,7 @@ side_small zero low = omega arith
 side_small (suc zero) low = omega arith
 side_small (suc (suc h)) low = absurd (omega arith)
 
-few_times : (n p : ℕ) → n ≤ 2 → p ≤ 2 ^ 63 → n * p ≤ 2 ^ 126
+few_times : (n p : ℕ) → n ≤ 2 → p ≤ 2 ^ 62 → n * p ≤ 2 ^ 126
 few_times zero p low small = omega arith
 few_times (suc zero) p low small = omega arith
 few_times (suc (suc zero)) p low small = omega arith
@@ -133,6 +135,51 @@ trace_has_goal h inputs low count a =
     let side : height x ≤ 2 = omega (arith, a.1.sized.tall, side_small h low) in
     let fits : TraceFits x = trace_fits x (a.1.sized.tall ∙ sym a.1.sized.wide) (few_times (height x) (peak_of x) side a.2) in
     (a.0 ∷ [], one_shown inputs a.0 count a.3, record { low = omega arith; leaf = 1; leaf_high = omega arith; fits = (a.1, fits) })
+
+-- the products of few small numbers sum to a small one
+few_products : (n p q : ℕ) → n ≤ 2 → p ≤ 2 ^ 62 → q ≤ 2 ^ 62 → n * p * q ≤ 2 ^ 126
+few_products n p q low first second = le_trans (mul-le-mul (mul-le-mul low first) second) (lit≤ tt)
+
+pub product_has_goal : (what : What) (h : ℕ) (inputs : Inputs MatChunk) → IsTrue (is_product what) → h ≤ 1 → inputs.count ≡ 2 → ShowsBlock h inputs.first → ShowsBlock h inputs.second
+    → HasGoal matrices (kind_of what h) inputs
+product_has_goal Mul h inputs is low count a b =
+    let x : Matrix = block_of 1 h a.0 in
+    let y : Matrix = block_of 1 h b.0 in
+    let inner : x.columns ≤ 2 = omega (arith, a.1.sized.wide, side_small h low) in
+    (a.0 ∷ b.0 ∷ [], two_shown inputs a.0 b.0 count a.3 b.3, record { low = omega arith; leaf = 1; leaf_high = omega arith; fits = (a.1, b.1, product_fits x y (a.1.sized.wide ∙ sym b.1.sized.tall) (few_products x.columns (peak_of x) (peak_of y) inner a.2 b.2)) })
+product_has_goal TMul h inputs is low count a b =
+    let x : Matrix = block_of 1 h a.0 in
+    let y : Matrix = block_of 1 h b.0 in
+    let inner : height x ≤ 2 = omega (arith, a.1.sized.tall, side_small h low) in
+    (a.0 ∷ b.0 ∷ [], two_shown inputs a.0 b.0 count a.3 b.3, record { low = omega arith; leaf = 1; leaf_high = omega arith; fits = (a.1, b.1, tmul_fits x y (a.1.sized.tall ∙ sym b.1.sized.tall) (few_products (height x) (peak_of x) (peak_of y) inner a.2 b.2)) })
+product_has_goal MulT h inputs is low count a b =
+    let x : Matrix = block_of 1 h a.0 in
+    let y : Matrix = block_of 1 h b.0 in
+    let inner : x.columns ≤ 2 = omega (arith, a.1.sized.wide, side_small h low) in
+    (a.0 ∷ b.0 ∷ [], two_shown inputs a.0 b.0 count a.3 b.3, record { low = omega arith; leaf = 1; leaf_high = omega arith; fits = (a.1, b.1, mult_fits x y (a.1.sized.wide ∙ sym b.1.sized.wide) (few_products x.columns (peak_of x) (peak_of y) inner a.2 b.2)) })
+product_has_goal Assign h inputs is low count a b = absurd (false≢true is)
+product_has_goal Add h inputs is low count a b = absurd (false≢true is)
+product_has_goal Transpose h inputs is low count a b = absurd (false≢true is)
+product_has_goal Join h inputs is low count a b = absurd (false≢true is)
+product_has_goal Trace h inputs is low count a b = absurd (false≢true is)
+product_has_goal AddNum h inputs is low count a b = absurd (false≢true is)
+
+-- each kind is served
+pub is_served : (what : What) → IsTrue (is_general what)
+is_served Assign = refl
+is_served Add = refl
+is_served Mul = refl
+is_served TMul = refl
+is_served MulT = refl
+is_served Transpose = refl
+is_served Join = refl
+is_served Trace = refl
+is_served AddNum = refl
+
+pub transpose_has_goal : (h : ℕ) (inputs : Inputs MatChunk) → h ≤ 1 → inputs.count ≡ 1 → ShowsBlock h inputs.first
+    → HasGoal matrices (kind_of Transpose h) inputs
+transpose_has_goal h inputs low count a =
+    (a.0 ∷ [], one_shown inputs a.0 count a.3, record { low = omega arith; leaf = 1; leaf_high = omega arith; fits = a.1 })
 
 pub join_has_goal : (h n : ℕ) (inputs : Inputs MatChunk) → n ≡ h + 1 → n ≤ 16 → inputs.count ≡ 4 → ShowsBlock h inputs.first → ShowsBlock h inputs.second → ShowsBlock h inputs.third → ShowsBlock h inputs.fourth
     → HasGoal matrices (kind_of Join n) inputs

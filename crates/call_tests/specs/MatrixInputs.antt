@@ -1,5 +1,5 @@
 -- What the inputs of the tests show: canonical trees with leaves of side 1, and numbers, none of them large.
-use Rattle.std.specs.Prelude.{◌≡◌, ℕ, ◌^◌, ◌≤◌, Bool, ◌||◌, if◌then◌else◌, unsigned_abs}
+use Rattle.std.specs.Prelude.{◌≡◌, ℕ, ◌^◌, ◌≤◌, Bool, true, false, ◌||◌, if◌then◌else◌, unsigned_abs}
 use Rattle.dense_def.specs.Matrix.{peak_of}
 use Rattle.task_types.specs.declared.inputs.View.{View}
 use Rattle.task_types.specs.declared.inputs.View.TheVariants as view
@@ -9,22 +9,36 @@ use Rattle.task_types.specs.Presence.{is_present}
 use Rattle.task_types.specs.Shown.{view_of, mask, presence_in}
 use Rattle.quad_matrix.specs.declared.chunk.MatChunk.{MatChunk}
 use Rattle.quad_matrix.specs.declared.chunk.MatChunk.TheVariants.{Node}
+use Rattle.quad_matrix.specs.declared.kind.What.{What}
+use Rattle.quad_matrix.specs.declared.kind.What.TheVariants.{Assign, Add, Mul, TMul, MulT, Transpose, Join, Trace, AddNum}
 use Rattle.quad_matrix.specs.Blocks.{block_of, number_of, IsCanonical, IsNumber}
 use Rattle.matrix_tasks.specs.Answers.{greatest_peak}
 
 -- a view shows a canonical tree of this height
 abbrev pub ShowsBlock : ℕ → View MatChunk → Type 0
 ShowsBlock h shown =
-    (tree : Tree MatChunk) × IsCanonical 1 h tree × (peak_of (block_of 1 h tree) ≤ 2 ^ 63) × (shown ≡ view_of tree)
+    (tree : Tree MatChunk) × IsCanonical 1 h tree × (peak_of (block_of 1 h tree) ≤ 2 ^ 62) × (shown ≡ view_of tree)
 
 -- a view shows the tree of a number
 abbrev pub ShowsNumber : View MatChunk → Type 0
 ShowsNumber shown =
-    (tree : Tree MatChunk) × IsNumber tree × (unsigned_abs (number_of tree) ≤ 2 ^ 63) × (shown ≡ view_of tree)
+    (tree : Tree MatChunk) × IsNumber tree × (unsigned_abs (number_of tree) ≤ 2 ^ 62) × (shown ≡ view_of tree)
 
 -- whether a view shows something
 abbrev pub shows_some : View MatChunk → Bool
 shows_some shown = is_present (presence_in shown)
+
+-- whether a kind is a product of two blocks
+abbrev pub is_product : What → Bool
+is_product Assign = false
+is_product Add = false
+is_product Mul = true
+is_product TMul = true
+is_product MulT = true
+is_product Transpose = false
+is_product Join = false
+is_product Trace = false
+is_product AddNum = false
 
 -- what shows a block of this height, where inputs show its quadrants
 abbrev pub over : ℕ → Inputs MatChunk → View MatChunk

@@ -1,8 +1,8 @@
-ghost use Rattle.std.specs.Prelude.{◌≡◌, ◌+◌, ◌≤◌, false, IfOk};
+ghost use Rattle.std.specs.Prelude.{◌≡◌, ◌+◌, ◌≤◌, false, IsTrue, IfOk};
 ghost use Rattle.task_types.specs.Shown.{mask};
 ghost use Rattle.chunk_codec.specs.Spots.{AreSoundSpots};
 ghost use Rattle.matrix_tasks.specs.Answers.{peak_shown, greatest_peak};
-ghost use Rattle.call_tests.specs.MatrixInputs.{ShowsBlock, ShowsNumber, over};
+ghost use Rattle.call_tests.specs.MatrixInputs.{ShowsBlock, ShowsNumber, is_product, over};
 
 use cht_ids::{List, Memory};
 use leaf_blocks::Leaf;
@@ -15,7 +15,7 @@ use task_types::{Inputs, Outcome, Places, Shared, View};
 // ---- Inputs
 
 // No greater number stands in a block of these tests.
-const MOST: u128 = 1 << 63;
+const MOST: u128 = 1 << 62;
 
 // A leaf of side 1.
 fn leaf(alloc: Global, n: i64) -> Result<View<MatChunk>, Memory>
@@ -132,6 +132,47 @@ fn add(
         count: 2,
         first,
         second,
+        third: View::Nothing,
+        fourth: View::Nothing,
+    };
+    told(alloc, &run_general(alloc, kind, &inputs)?)
+}
+
+fn product(
+    alloc: Global,
+    what: What,
+    height: u32,
+    first: View<MatChunk>,
+    second: View<MatChunk>,
+) -> Result<String, Memory>
+    requires product { IsTrue (is_product what) }
+    requires low { height ≤ 1 }
+    requires first { ShowsBlock height first }
+    requires second { ShowsBlock height second }
+{
+    let kind = MatKind { what, height };
+    let inputs = Inputs {
+        count: 2,
+        first,
+        second,
+        third: View::Nothing,
+        fourth: View::Nothing,
+    };
+    told(alloc, &run_general(alloc, kind, &inputs)?)
+}
+
+fn transpose(alloc: Global, height: u32, block: View<MatChunk>) -> Result<String, Memory>
+    requires low { height ≤ 1 }
+    requires block { ShowsBlock height block }
+{
+    let kind = MatKind {
+        what: What::Transpose,
+        height,
+    };
+    let inputs = Inputs {
+        count: 1,
+        first: block,
+        second: View::Nothing,
         third: View::Nothing,
         fourth: View::Nothing,
     };
@@ -286,6 +327,59 @@ fn sums_take_the_children_that_are_there(rt: HostRuntime) -> Result<(), Fail> {
     assert_eq!(rt;
         add(alloc, 1, a, b)?.as_str(),
         "Add 0 Child(0, 0) Child(1, 0); Join 1 Task(0) Child(1, 1) Null Child(0, 3); Task(1)"
+    );
+    Ok(())
+}
+
+#[test]
+fn products_of_leaves_are_one_leaf_or_null(rt: HostRuntime) -> Result<(), Fail> {
+    let alloc = rt.alloc();
+    let text = product(alloc, What::Mul, 0, leaf(alloc, 3)?, leaf(alloc, -5)?)?;
+    assert_eq!(rt; text.as_str(), "leaf 1 peak 15; Chunk(0)");
+    let text = product(alloc, What::TMul, 0, leaf(alloc, 0)?, leaf(alloc, 4)?)?;
+    assert_eq!(rt; text.as_str(), "Null");
+    let text = product(alloc, What::MulT, 0, leaf(alloc, 2)?, leaf(alloc, 0)?)?;
+    assert_eq!(rt; text.as_str(), "Null");
+    Ok(())
+}
+
+#[test]
+fn products_take_the_terms_whose_children_are_there(rt: HostRuntime) -> Result<(), Fail> {
+    let alloc = rt.alloc();
+    let a = square(alloc, &[1, 0, 0, 2])?;
+    let b = square(alloc, &[3, 4, 0, 5])?;
+    assert_eq!(rt;
+        product(alloc, What::Mul, 1, a, b)?.as_str(),
+        "Mul 0 Child(0, 0) Child(1, 0); Mul 0 Child(0, 0) Child(1, 1); Mul 0 Child(0, 3) Child(1, 3); Join 1 Task(0) Task(1) Null Task(2); Task(3)"
+    );
+    let a = square(alloc, &[1, 2, 0, 0])?;
+    let b = square(alloc, &[3, 0, 4, 0])?;
+    assert_eq!(rt;
+        product(alloc, What::TMul, 1, a, b)?.as_str(),
+        "TMul 0 Child(0, 0) Child(1, 0); TMul 0 Child(0, 1) Child(1, 0); Join 1 Task(0) Null Task(1) Null; Task(2)"
+    );
+    let a = square(alloc, &[1, 2, 0, 0])?;
+    let b = square(alloc, &[3, 4, 0, 5])?;
+    assert_eq!(rt;
+        product(alloc, What::MulT, 1, a, b)?.as_str(),
+        "MulT 0 Child(0, 0) Child(1, 0); MulT 0 Child(0, 1) Child(1, 1); Add 0 Task(0) Task(1); MulT 0 Child(0, 1) Child(1, 3); Join 1 Task(2) Task(3) Null Null; Task(4)"
+    );
+    let a = square(alloc, &[1, 0, 0, 0])?;
+    let b = square(alloc, &[0, 0, 0, 2])?;
+    assert_eq!(rt; product(alloc, What::Mul, 1, a, b)?.as_str(), "Null");
+    Ok(())
+}
+
+#[test]
+fn a_transpose_exchanges_the_quadrants_beside_the_diagonal(rt: HostRuntime) -> Result<(), Fail> {
+    let alloc = rt.alloc();
+    assert_eq!(rt;
+        transpose(alloc, 0, leaf(alloc, -7)?)?.as_str(),
+        "leaf 1 peak 7; Chunk(0)"
+    );
+    assert_eq!(rt;
+        transpose(alloc, 1, square(alloc, &[1, 2, 3, 0])?)?.as_str(),
+        "Transpose 0 Child(0, 0); Transpose 0 Child(0, 2); Transpose 0 Child(0, 1); Join 1 Task(0) Task(1) Task(2) Null; Task(3)"
     );
     Ok(())
 }

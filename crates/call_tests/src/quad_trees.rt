@@ -13,9 +13,13 @@ fn is_known_by<K: Kinds>(kind: K, text: &[u8], name: &[u8], height: u32) -> bool
 
 #[test]
 fn kinds_are_known_by_their_names_and_heights(rt: HostRuntime) {
-    let cases: [(&str, &str, What, u32); 5] = [
+    let cases: [(&str, &str, What, u32); 9] = [
         ("assign 0", "assign", What::Assign, 0),
         ("add 16", "add", What::Add, 16),
+        ("mul 2", "mul", What::Mul, 2),
+        ("tmul 16", "tmul", What::TMul, 16),
+        ("mult 0", "mult", What::MulT, 0),
+        ("transpose 1", "transpose", What::Transpose, 1),
         ("join 17", "join", What::Join, 17),
         ("trace 4294967295", "trace", What::Trace, 4294967295),
         ("addnum 3", "addnum", What::AddNum, 3),

@@ -1,9 +1,10 @@
 -- Terms that fit on a whole matrix fit on its quadrants.
-use Rattle.std.proofs.Common.{◌≡◌, ℕ, ◌+◌, ◌^◌, ◌<◌, ◌≤◌, ℤ, ◌*ℤ◌, refl, sym, ap, ap₂, subst, ◌∙◌, arith}
-use Rattle.dense_def.specs.Matrix.{Matrix, height, entry, magnitudes_below, transposed, joined, TermsFit, PairFits}
-use Rattle.dense_def.specs.Laws.{SumFitsOnQuadrants, ProductFitsOnQuadrants, TraceFitsOnQuadrants, TmulFitsIsProductFits, MultFitsIsProductFits}
+use Rattle.std.proofs.Common.{◌≡◌, ℕ, ◌+◌, ◌^◌, ◌<◌, ◌≤◌, ℤ, ◌*ℤ◌, refl, sym, ap, ap₂, subst, subst₂, ◌∙◌, arith}
+use Rattle.dense_def.specs.Matrix.{Matrix, height, entry, magnitudes_below, transposed, joined, TermsFit, PairFits, TmulPairFits, MultPairFits, SumFits, ProductFits}
+use Rattle.dense_def.specs.Laws.{SumFitsOnQuadrants, ProductFitsOnQuadrants, TraceFitsOnQuadrants, TmulFitsIsProductFits, MultFitsIsProductFits, TmulFitsOnQuadrants, MultFitsOnQuadrants}
 use Rattle.dense_def.proofs.Sums.{magnitudes_bound, magnitudes_below_split, magnitudes_below_ext}
-use Rattle.dense_def.proofs.Operations.{entry-times, height-times, entry-transposed, height-transposed}
+use Rattle.dense_def.proofs.Operations.{entry-times, height-times, entry-transposed, height-transposed, tmul_is, mult_is}
+use Rattle.dense_def.proofs.Quadrants.{transposed-joined, QuadrantsFit-transposed}
 use Rattle.dense_def.proofs.Blocks.{height-joined, entry-joined_upper_left, entry-joined_upper_right, entry-joined_lower_left, entry-joined_lower_right, upper_left, upper_right, lower_left, lower_right}
 
 -- two products whose terms fit together at each place
@@ -121,3 +122,43 @@ mult_fits_is a b wide = (
       fits_same a.columns (λ t. entry a i t *ℤ entry (transposed b) t j) (λ t. entry a i t *ℤ entry b j t)
       (λ t m. ap (λ z. entry a i t *ℤ z) (entry-transposed b t j (rw (← wide) m) k)) (fit i j h k),
 )
+
+-- ---- Products with a transposed factor, on quadrants
+
+-- a pair of products with transposed first factors
+tmul_pair : (a b c d : Matrix) → PairFits (transposed a) b (transposed c) d → TmulPairFits a b c d
+tmul_pair a b c d fit =
+    record {
+      first = (tmul_fits_is a b).1 fit.first;
+      second = (tmul_fits_is c d).1 fit.second;
+      together = subst₂ SumFits (sym (tmul_is a b)) (sym (tmul_is c d)) fit.together;
+    }
+
+-- a pair of products with transposed second factors
+mult_pair : (a b c d : Matrix) → a.columns ≡ b.columns → c.columns ≡ d.columns → PairFits a (transposed b) c (transposed d) → MultPairFits a b c d
+mult_pair a b c d near far fit =
+    record {
+      first = (mult_fits_is a b near).1 fit.first;
+      second = (mult_fits_is c d far).1 fit.second;
+      together = subst₂ SumFits (sym (mult_is a b near)) (sym (mult_is c d far)) fit.together;
+    }
+
+-- a product with the first factor transposed
+pub tmul_fits_on_quadrants : TmulFitsOnQuadrants
+tmul_fits_on_quadrants a b c d e f g h fit fit' near far whole =
+    let four =
+    product_fits_on_quadrants (transposed a) (transposed c) (transposed b) (transposed d) e f g h (QuadrantsFit-transposed a b c d fit) fit' near far
+    (subst (λ m. ProductFits m (joined e f g h)) (transposed-joined a b c d fit) ((tmul_fits_is (joined a b c d) (joined e f g h)).0 whole)) in
+    (tmul_pair a e c g four.0, tmul_pair a f c h four.1, tmul_pair b e d g four.2, tmul_pair b f d h four.3)
+
+-- a product with the second factor transposed
+pub mult_fits_on_quadrants : MultFitsOnQuadrants
+mult_fits_on_quadrants a b c d e f g h fit fit' near far whole =
+    let four =
+    product_fits_on_quadrants a b c d (transposed e) (transposed g) (transposed f) (transposed h) fit (QuadrantsFit-transposed e f g h fit') (near ∙ sym (height-transposed e)) (far ∙ sym (height-transposed f))
+    (subst (λ m. ProductFits (joined a b c d) m) (transposed-joined e f g h fit') ((mult_fits_is (joined a b c d) (joined e f g h) (ap₂ ◌+◌ near far)).0 whole)) in (
+      mult_pair a e b f near far four.0,
+      mult_pair a g b h (near ∙ fit'.left) (far ∙ fit'.right) four.1,
+      mult_pair c e d f (sym fit.left ∙ near) (sym fit.right ∙ far) four.2,
+      mult_pair c g d h (sym fit.left ∙ near ∙ fit'.left) (sym fit.right ∙ far ∙ fit'.right) four.3,
+    )

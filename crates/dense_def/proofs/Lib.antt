@@ -8,3 +8,4 @@ pub mod Totals
 pub mod Peaks
 pub mod Zeros
 pub mod Fits
+pub mod Completed

@@ -98,7 +98,7 @@ times-joined a b c d e f g h fit fit' near far =
     ∙ sym (two_products c f d h i j l (rw fit.lower at l) k (rw fit'.right at k)))
 
 -- the transposes of four quadrants are the quadrants of the transpose
-QuadrantsFit-transposed : (a b c d : Matrix) → QuadrantsFit a b c d → QuadrantsFit (transposed a) (transposed c) (transposed b) (transposed d)
+pub QuadrantsFit-transposed : (a b c d : Matrix) → QuadrantsFit a b c d → QuadrantsFit (transposed a) (transposed c) (transposed b) (transposed d)
 QuadrantsFit-transposed a b c d fit =
     record {
       upper = height-transposed a ∙ fit.left ∙ sym (height-transposed c);

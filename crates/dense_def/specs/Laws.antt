@@ -1,6 +1,6 @@
 -- The laws of matrices and of their blocks, as statements. The functions of `laws` carry each as their contract.
 use Rattle.std.specs.Prelude.{◌≡◌, ℕ, ◌+◌, ◌*◌, ◌^◌, ◌<◌, ◌≤◌, max, ◌↔◌, pos, ◌+ℤ◌, unsigned_abs}
-use Rattle.dense_def.specs.Matrix.{Matrix, height, entry, IsMatrix, plus, times, transposed, trace_of, tmul_of, mult_of, block, joined, QuadrantsFit, IsSymmetric, IsZero, zeros, peak_of, SumFits, ProductFits, TmulFits, MultFits, TraceFits, PairFits}
+use Rattle.dense_def.specs.Matrix.{Matrix, height, entry, IsMatrix, plus, times, transposed, trace_of, tmul_of, mult_of, block, joined, QuadrantsFit, IsSymmetric, IsZero, zeros, peak_of, SumFits, ProductFits, TmulFits, MultFits, TraceFits, PairFits, TmulPairFits, MultPairFits, completed}
 
 -- the transpose of a matrix, transposed, is the matrix
 abbrev pub TransposeTwice : Type 0
@@ -247,6 +247,22 @@ ProductFitsOnQuadrants =
     → ProductFits (joined a b c d) (joined e f g h)
     → PairFits a e b g × PairFits a f b h × PairFits c e d g × PairFits c f d h
 
+-- so is one with the first factor transposed
+abbrev pub TmulFitsOnQuadrants : Type 0
+TmulFitsOnQuadrants =
+    (a b c d e f g h : Matrix)
+    → QuadrantsFit a b c d → QuadrantsFit e f g h → height a ≡ height e → height c ≡ height g
+    → TmulFits (joined a b c d) (joined e f g h)
+    → TmulPairFits a e c g × TmulPairFits a f c h × TmulPairFits b e d g × TmulPairFits b f d h
+
+-- and one with the second factor transposed
+abbrev pub MultFitsOnQuadrants : Type 0
+MultFitsOnQuadrants =
+    (a b c d e f g h : Matrix)
+    → QuadrantsFit a b c d → QuadrantsFit e f g h → a.columns ≡ e.columns → b.columns ≡ f.columns
+    → MultFits (joined a b c d) (joined e f g h)
+    → MultPairFits a e b f × MultPairFits a g b h × MultPairFits c e d f × MultPairFits c g d h
+
 -- a trace whose terms fit is one whose terms fit on both diagonal quadrants, and the two traces fit together
 abbrev pub TraceFitsOnQuadrants : Type 0
 TraceFitsOnQuadrants =
@@ -262,3 +278,48 @@ TmulFitsIsProductFits = (a b : Matrix) → TmulFits a b ↔ ProductFits (transpo
 -- the terms of `mult_of` fit exactly where those of the product with the second factor transposed do
 abbrev pub MultFitsIsProductFits : Type 0
 MultFitsIsProductFits = (a b : Matrix) → a.columns ≡ b.columns → (MultFits a b ↔ ProductFits a (transposed b))
+
+-- ---- Matrices completed by zeros
+
+-- the product of completed matrices is the completed product
+abbrev pub ProductOfCompleted : Type 0
+ProductOfCompleted =
+    (side : ℕ) (a b : Matrix)
+    → IsMatrix a → IsMatrix b → a.columns ≡ height b → a.columns ≤ side
+    → times (completed side a) (completed side b) ≡ completed side (times a b)
+
+-- so it is with the first factor transposed
+abbrev pub TmulOfCompleted : Type 0
+TmulOfCompleted =
+    (side : ℕ) (a b : Matrix)
+    → IsMatrix a → IsMatrix b → height a ≡ height b → height a ≤ side
+    → tmul_of (completed side a) (completed side b) ≡ completed side (tmul_of a b)
+
+-- and with the second factor transposed
+abbrev pub MultOfCompleted : Type 0
+MultOfCompleted =
+    (side : ℕ) (a b : Matrix)
+    → IsMatrix a → IsMatrix b → a.columns ≡ b.columns → a.columns ≤ side
+    → mult_of (completed side a) (completed side b) ≡ completed side (mult_of a b)
+
+-- The terms of a product of completed matrices fit where the inner size of the matrices themselves times both peaks is at most
+-- 2 ^ 126: what is completed adds zeros alone.
+abbrev pub CompletedProductFitsByPeaks : Type 0
+CompletedProductFitsByPeaks =
+    (side : ℕ) (a b : Matrix)
+    → IsMatrix a → IsMatrix b → a.columns ≡ height b → a.columns ≤ side → a.columns * peak_of a * peak_of b ≤ 2 ^ 126
+    → ProductFits (completed side a) (completed side b)
+
+-- so do those of a product with the first factor transposed
+abbrev pub CompletedTmulFitsByPeaks : Type 0
+CompletedTmulFitsByPeaks =
+    (side : ℕ) (a b : Matrix)
+    → IsMatrix a → IsMatrix b → height a ≡ height b → height a ≤ side → height a * peak_of a * peak_of b ≤ 2 ^ 126
+    → TmulFits (completed side a) (completed side b)
+
+-- and those of a product with the second factor transposed
+abbrev pub CompletedMultFitsByPeaks : Type 0
+CompletedMultFitsByPeaks =
+    (side : ℕ) (a b : Matrix)
+    → IsMatrix a → IsMatrix b → a.columns ≡ b.columns → a.columns ≤ side → a.columns * peak_of a * peak_of b ≤ 2 ^ 126
+    → MultFits (completed side a) (completed side b)

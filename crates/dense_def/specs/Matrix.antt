@@ -97,6 +97,10 @@ pub record QuadrantsFit (a b c d : Matrix) : Type 0 where
   pub left : a.columns ≡ c.columns
   pub right : b.columns ≡ d.columns
 
+-- a matrix completed by zeros to a square of that side
+abbrev pub completed : ℕ → Matrix → Matrix
+completed side m = made side side (λ i j. entry m i j)
+
 -- a matrix is symmetric where it is its own transpose
 abbrev pub IsSymmetric : Matrix → Type 0
 IsSymmetric a = transposed a ≡ a
@@ -148,3 +152,15 @@ pub record PairFits (a b c d : Matrix) : Type 0 where
   pub first : ProductFits a b
   pub second : ProductFits c d
   pub together : SumFits (times a b) (times c d)
+
+-- the transpose of a times b, and the transpose of c times d, may be computed and added
+pub record TmulPairFits (a b c d : Matrix) : Type 0 where
+  pub first : TmulFits a b
+  pub second : TmulFits c d
+  pub together : SumFits (tmul_of a b) (tmul_of c d)
+
+-- a times the transpose of b, and c times the transpose of d, may be computed and added
+pub record MultPairFits (a b c d : Matrix) : Type 0 where
+  pub first : MultFits a b
+  pub second : MultFits c d
+  pub together : SumFits (mult_of a b) (mult_of c d)

@@ -1,7 +1,7 @@
 //! The laws of matrices, of their blocks and of the sizes of their entries. Each function does nothing: its contract is the
 //! law, which `specs/Laws.antt` states, and a proof above cites the lemma of `proofs/` behind it.
 
-ghost use Rattle.dense_def.specs.Laws.{TransposeTwice, TransposeOfProduct, TransposedFactorFirst, TransposedFactorSecond, BlockOfProduct, JoinOfQuadrants, QuadrantsOfJoin, SumOfJoins, TransposeOfJoin, TraceOfJoin, ProductOfJoins, TmulOfJoins, MultOfJoins, SymmetricJoin, SymmetricSquare, RankByRows, RankByColumns, SymmetricSum, SquareIsSymmetric, RankIsSymmetric, ZeroIsZeros, SumWithZeros, ProductWithZeros, TransposeOfZeros, TraceOfZeros, JoinOfZeros, PeakIsBound, PeakIsLeast, PeakOfZero, PeakOfJoin, PeakOfTranspose, SumFitsByPeaks, ProductFitsByPeaks, TmulFitsByPeaks, MultFitsByPeaks, TraceFitsByPeak, SumFitsOnQuadrants, ProductFitsOnQuadrants, TraceFitsOnQuadrants, TmulFitsIsProductFits, MultFitsIsProductFits};
+ghost use Rattle.dense_def.specs.Laws.{TransposeTwice, TransposeOfProduct, TransposedFactorFirst, TransposedFactorSecond, BlockOfProduct, JoinOfQuadrants, QuadrantsOfJoin, SumOfJoins, TransposeOfJoin, TraceOfJoin, ProductOfJoins, TmulOfJoins, MultOfJoins, SymmetricJoin, SymmetricSquare, RankByRows, RankByColumns, SymmetricSum, SquareIsSymmetric, RankIsSymmetric, ZeroIsZeros, SumWithZeros, ProductWithZeros, TransposeOfZeros, TraceOfZeros, JoinOfZeros, PeakIsBound, PeakIsLeast, PeakOfZero, PeakOfJoin, PeakOfTranspose, SumFitsByPeaks, ProductFitsByPeaks, TmulFitsByPeaks, MultFitsByPeaks, TraceFitsByPeak, SumFitsOnQuadrants, ProductFitsOnQuadrants, TraceFitsOnQuadrants, TmulFitsIsProductFits, MultFitsIsProductFits, TmulFitsOnQuadrants, MultFitsOnQuadrants, ProductOfCompleted, TmulOfCompleted, MultOfCompleted, CompletedProductFitsByPeaks, CompletedTmulFitsByPeaks, CompletedMultFitsByPeaks};
 
 /// Transposes: of a transpose, of a product, and the two products that take one.
 pub fn transposes()
@@ -78,4 +78,17 @@ pub fn fitting_quadrants()
     ensures trace { TraceFitsOnQuadrants }
     ensures tmul { TmulFitsIsProductFits }
     ensures mult { MultFitsIsProductFits }
+    ensures tmul_quadrants { TmulFitsOnQuadrants }
+    ensures mult_quadrants { MultFitsOnQuadrants }
+{}
+
+/// Products of matrices that are completed by zeros to squares: they are the completed products, and the peaks and the inner size of the
+/// matrices themselves tell whether their terms fit.
+pub fn completed_products()
+    ensures product { ProductOfCompleted }
+    ensures tmul { TmulOfCompleted }
+    ensures mult { MultOfCompleted }
+    ensures product_fits { CompletedProductFitsByPeaks }
+    ensures tmul_fits { CompletedTmulFitsByPeaks }
+    ensures mult_fits { CompletedMultFitsByPeaks }
 {}

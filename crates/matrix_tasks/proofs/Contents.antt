@@ -15,7 +15,7 @@ use Rattle.task_types.proofs.Shown.{presences_in-shown}
 use Rattle.task_plans.specs.Plans.{are_null}
 use Rattle.quad_matrix.specs.declared.chunk.MatChunk.{MatChunk}
 use Rattle.quad_matrix.specs.declared.kind.What.{What}
-use Rattle.quad_matrix.specs.declared.kind.What.TheVariants.{Assign, Add, Join, Trace, AddNum}
+use Rattle.quad_matrix.specs.declared.kind.What.TheVariants.{Assign, Add, Mul, TMul, MulT, Transpose, Join, Trace, AddNum}
 use Rattle.quad_matrix.specs.Blocks.{block_of, IsCanonical}
 use Rattle.quad_matrix.specs.Goals.{kind_of, FitsAt, IsDefined}
 use Rattle.quad_matrix.specs.Spots.{block_of_spots}
@@ -93,6 +93,10 @@ node_at b (suc h) inputs x y z w low fits shows some =
 pub node_fits : (what : What) (height : ℕ) (inputs : Inputs MatChunk) → what ≡ Join → (trees : List (Tree MatChunk)) → Shows inputs trees
     → IsDefined (kind_of what height) trees → NodeFits height inputs
 node_fits Assign height inputs e trees shows d = cc
+node_fits Mul height inputs e trees shows d = cc
+node_fits TMul height inputs e trees shows d = cc
+node_fits MulT height inputs e trees shows d = cc
+node_fits Transpose height inputs e trees shows d = cc
 node_fits Add height inputs e trees shows d = cc
 node_fits Trace height inputs e trees shows d = cc
 node_fits AddNum height inputs e trees shows d = cc

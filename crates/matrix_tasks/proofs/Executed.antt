@@ -14,7 +14,7 @@ use Rattle.quad_matrix.specs.declared.chunk.MatChunk.{MatChunk}
 use Rattle.quad_matrix.specs.declared.chunk.MatChunk.TheVariants as chunk
 use Rattle.quad_matrix.specs.declared.chunk.Entries.{Entries}
 use Rattle.quad_matrix.specs.declared.kind.What.{What}
-use Rattle.quad_matrix.specs.declared.kind.What.TheVariants.{Assign, Add, Join, Trace, AddNum}
+use Rattle.quad_matrix.specs.declared.kind.What.TheVariants.{Assign, Add, Mul, TMul, MulT, Transpose, Join, Trace, AddNum}
 use Rattle.quad_matrix.specs.declared.kind.MatKind.{MatKind}
 use Rattle.quad_matrix.specs.Chunks.{arity_of}
 use Rattle.quad_matrix.specs.Blocks.{IsCanonical}
@@ -26,6 +26,10 @@ use Rattle.quad_matrix.proofs.ForOthers.{root_of_node}
 use Rattle.matrix_tasks.specs.Answers.{entries_shown}
 use Rattle.matrix_tasks.specs.ByPlan.{portions_shown, HasPortions, planned_answer}
 use Rattle.matrix_tasks.proofs.ByPlan.{add_by_plan, trace_by_plan}
+use Rattle.quad_matrix.specs.Products.{Turned, Neither, First, Second, product_what}
+use Rattle.quad_matrix.proofs.ForOthers.{fits_product}
+use Rattle.matrix_tasks.proofs.Factors.{of_two}
+use Rattle.matrix_tasks.proofs.ProductsByPlan.{product_by_plan, transpose_by_plan}
 use Rattle.matrix_tasks.proofs.AssignByPlan.{list_by_plan, portions_sound}
 
 -- the answer of a kind, by what is known of its inputs and by the entries that the first one shows
@@ -49,6 +53,21 @@ assign_executes b h inputs (Root (chunk.Entries e) x0 x1 x2 x3) low fits shows t
     (sym (answer_is Assign h inputs (map presence_of (x ∷ [])) (Some e) (presences_in-shown inputs (x ∷ []) shows) (ap entries_shown (first-shown_one inputs x shows))))
     (list_by_plan b h e fits.0 x0 x1 x2 x3 low fits)
 
+-- a product
+product_executes : (turned : Turned) (h : ℕ) (inputs : Inputs MatChunk) → all_present (presences_in inputs) ≡ true → (trees : List (Tree MatChunk)) → Shows inputs trees
+    → IsDefined (kind_of (product_what turned) (suc h)) trees
+    → IsSound arity_of matrices (kind_of (product_what turned) (suc h)) trees (planned_answer (kind_of (product_what turned) (suc h)) inputs)
+product_executes turned h inputs there trees shows d =
+    of_two d.leaf (suc h) turned
+    (λ (trees : List (Tree MatChunk)). Shows inputs trees → FitsAt d.leaf (product_what turned) (suc h) trees → IsSound arity_of matrices (kind_of (product_what turned) (suc h)) trees (planned_answer (kind_of (product_what turned) (suc h)) inputs))
+    (λ x y shows fits.
+    let two : List (Tree MatChunk) = x ∷ y ∷ [] in
+    let known = presences_in-shown inputs two shows in
+    subst (λ (outcome : Outcome MatChunk MatKind). IsSound arity_of matrices (kind_of (product_what turned) (suc h)) two outcome)
+    (sym (answer_is (product_what turned) h inputs (map presence_of two) (entries_shown inputs.first) known refl))
+    (product_by_plan turned d.leaf h (portions_shown (product_what turned) (entries_shown inputs.first)) x y d.leaf_high d.low (ap all_present (sym known) ∙ there) fits))
+    trees d.fits shows d.fits
+
 at_height : (what : What) (h : ℕ) (inputs : Inputs MatChunk) → (what ≡ Join → ⊥)
     → all_present (presences_in inputs) ≡ true → (trees : List (Tree MatChunk)) → Shows inputs trees → IsDefined (kind_of what (suc h)) trees
     → IsSound arity_of matrices (kind_of what (suc h)) trees (planned_answer (kind_of what (suc h)) inputs)
@@ -70,6 +89,17 @@ at_height Add h inputs e there (x ∷ y ∷ []) shows d =
     (sym (answer_is Add h inputs (map presence_of trees) (entries_shown inputs.first) known refl))
     (add_by_plan d.leaf h (portions_shown Add (entries_shown inputs.first)) x y d.leaf_high d.low (ap all_present (sym known) ∙ there) d.fits)
 at_height Add h inputs e there (x ∷ y ∷ z ∷ trees) shows d = absurd d.fits
+at_height Mul h inputs e there trees shows d = product_executes Neither h inputs there trees shows d
+at_height TMul h inputs e there trees shows d = product_executes First h inputs there trees shows d
+at_height MulT h inputs e there trees shows d = product_executes Second h inputs there trees shows d
+at_height Transpose h inputs e there [] shows d = absurd d.fits
+at_height Transpose h inputs e there (x ∷ []) shows d =
+    let trees : List (Tree MatChunk) = x ∷ [] in
+    let known = presences_in-shown inputs trees shows in
+    subst (λ (outcome : Outcome MatChunk MatKind). IsSound arity_of matrices (kind_of Transpose (suc h)) trees outcome)
+    (sym (answer_is Transpose h inputs (map presence_of trees) (entries_shown inputs.first) known refl))
+    (transpose_by_plan d.leaf h (portions_shown Transpose (entries_shown inputs.first)) x d.leaf_high d.low (ap all_present (sym known) ∙ there) d.fits)
+at_height Transpose h inputs e there (x ∷ y ∷ trees) shows d = absurd d.fits
 at_height Trace h inputs e there [] shows d = absurd d.fits
 at_height Trace h inputs e there (x ∷ []) shows d =
     let trees : List (Tree MatChunk) = x ∷ [] in
@@ -107,6 +137,17 @@ list_splits b h (Root (chunk.Entries e) x0 x1 x2 x3) low is =
       sound = portions_sound b h e is.0;
     }
 
+-- nor does a factor of a product
+product_splits : (turned : Turned) (h : ℕ) (inputs : Inputs MatChunk) (trees : List (Tree MatChunk)) → Shows inputs trees → IsDefined (kind_of (product_what turned) (suc h)) trees
+    → HasPortions (product_what turned) (entries_shown inputs.first)
+product_splits turned h inputs trees shows d =
+    of_two d.leaf (suc h) turned
+    (λ (trees : List (Tree MatChunk)). Shows inputs trees → FitsAt d.leaf (product_what turned) (suc h) trees → HasPortions (product_what turned) (entries_shown inputs.first))
+    (λ x y shows fits.
+    let both = fits_product d.leaf (suc h) turned x y fits in
+    subst (HasPortions (product_what turned)) (sym (ap entries_shown (first-shown_two inputs x y shows) ∙ no_entries d.leaf h x both.0)) tt)
+    trees d.fits shows d.fits
+
 portions_at : (what : What) (h : ℕ) (inputs : Inputs MatChunk) → (what ≡ Join → ⊥)
     → (trees : List (Tree MatChunk)) → Shows inputs trees → IsDefined (kind_of what (suc h)) trees
     → HasPortions what (entries_shown inputs.first)
@@ -124,6 +165,13 @@ portions_at Add h inputs e (x ∷ []) shows d = absurd d.fits
 portions_at Add h inputs e (x ∷ y ∷ []) shows d =
     subst (HasPortions Add) (sym (ap entries_shown (first-shown_two inputs x y shows) ∙ no_entries d.leaf h x d.fits.0)) tt
 portions_at Add h inputs e (x ∷ y ∷ z ∷ trees) shows d = absurd d.fits
+portions_at Mul h inputs e trees shows d = product_splits Neither h inputs trees shows d
+portions_at TMul h inputs e trees shows d = product_splits First h inputs trees shows d
+portions_at MulT h inputs e trees shows d = product_splits Second h inputs trees shows d
+portions_at Transpose h inputs e [] shows d = absurd d.fits
+portions_at Transpose h inputs e (x ∷ []) shows d =
+    subst (HasPortions Transpose) (sym (ap entries_shown (first-shown_one inputs x shows) ∙ no_entries d.leaf h x d.fits)) tt
+portions_at Transpose h inputs e (x ∷ y ∷ trees) shows d = absurd d.fits
 portions_at Trace h inputs e [] shows d = absurd d.fits
 portions_at Trace h inputs e (x ∷ []) shows d =
     subst (HasPortions Trace) (sym (ap entries_shown (first-shown_one inputs x shows) ∙ no_entries d.leaf h x d.fits.0)) tt

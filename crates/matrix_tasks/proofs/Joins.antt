@@ -15,7 +15,7 @@ use Rattle.task_types.proofs.Shown.{presences_in-shown}
 use Rattle.quad_matrix.specs.declared.chunk.MatChunk.{MatChunk}
 use Rattle.quad_matrix.specs.declared.chunk.MatChunk.TheVariants.{Node}
 use Rattle.quad_matrix.specs.declared.kind.What.{What}
-use Rattle.quad_matrix.specs.declared.kind.What.TheVariants.{Assign, Add, Join, Trace, AddNum}
+use Rattle.quad_matrix.specs.declared.kind.What.TheVariants.{Assign, Add, Mul, TMul, MulT, Transpose, Join, Trace, AddNum}
 use Rattle.quad_matrix.specs.declared.kind.MatKind.{MatKind}
 use Rattle.quad_matrix.specs.Chunks.{arity_of}
 use Rattle.quad_matrix.specs.Goals.{kind_of, goal_of, FitsAt, IsDefined}
@@ -148,6 +148,10 @@ pub join_sound : (what : What) (height : ℕ) (inputs : Inputs MatChunk) → wha
     → IsDefined (kind_of what height) trees
     → IsSound arity_of matrices (kind_of what height) trees (join_answer height inputs)
 join_sound Assign height inputs e trees shows d = cc
+join_sound Mul height inputs e trees shows d = cc
+join_sound TMul height inputs e trees shows d = cc
+join_sound MulT height inputs e trees shows d = cc
+join_sound Transpose height inputs e trees shows d = cc
 join_sound Add height inputs e trees shows d = cc
 join_sound Trace height inputs e trees shows d = cc
 join_sound AddNum height inputs e trees shows d = cc

@@ -7,3 +7,6 @@ pub mod LowSingles
 pub mod ByPlan
 pub mod AssignByPlan
 pub mod Executed
+mod Factors
+mod LowProducts
+mod ProductsByPlan

@@ -13,7 +13,7 @@ use Rattle.task_types.specs.Sound.{IsSound}
 use Rattle.task_types.proofs.Shown.{presences_in-shown, first-shown_two, second-shown_two}
 use Rattle.quad_matrix.specs.declared.chunk.MatChunk.{MatChunk}
 use Rattle.quad_matrix.specs.declared.kind.What.{What}
-use Rattle.quad_matrix.specs.declared.kind.What.TheVariants.{Assign, Add, Join, Trace, AddNum}
+use Rattle.quad_matrix.specs.declared.kind.What.TheVariants.{Assign, Add, Mul, TMul, MulT, Transpose, Join, Trace, AddNum}
 use Rattle.quad_matrix.specs.declared.kind.MatKind.{MatKind}
 use Rattle.quad_matrix.specs.Chunks.{arity_of}
 use Rattle.quad_matrix.specs.Blocks.{block_of, number_of, IsCanonical, IsNumber}
@@ -60,6 +60,10 @@ pub sum_sound : (what : What) (height : ℕ) (inputs : Inputs MatChunk) → what
     → (trees : List (Tree MatChunk)) → Shows inputs trees → IsDefined (kind_of what height) trees
     → IsSound arity_of matrices (kind_of what height) trees (number_outcome (number_shown inputs.first +ℤ number_shown inputs.second))
 sum_sound Assign height inputs e there trees shows d = cc
+sum_sound Mul height inputs e there trees shows d = cc
+sum_sound TMul height inputs e there trees shows d = cc
+sum_sound MulT height inputs e there trees shows d = cc
+sum_sound Transpose height inputs e there trees shows d = cc
 sum_sound Add height inputs e there trees shows d = cc
 sum_sound Join height inputs e there trees shows d = cc
 sum_sound Trace height inputs e there trees shows d = cc
@@ -74,6 +78,10 @@ pub numbers_fit : (what : What) (height : ℕ) (inputs : Inputs MatChunk) → wh
     → (trees : List (Tree MatChunk)) → Shows inputs trees → IsDefined (kind_of what height) trees
     → unsigned_abs (number_shown inputs.first) + unsigned_abs (number_shown inputs.second) ≤ 2 ^ 126
 numbers_fit Assign height inputs e trees shows d = cc
+numbers_fit Mul height inputs e trees shows d = cc
+numbers_fit TMul height inputs e trees shows d = cc
+numbers_fit MulT height inputs e trees shows d = cc
+numbers_fit Transpose height inputs e trees shows d = cc
 numbers_fit Add height inputs e trees shows d = cc
 numbers_fit Join height inputs e trees shows d = cc
 numbers_fit Trace height inputs e trees shows d = cc
@@ -102,6 +110,10 @@ pub add_sound : (what : What) (height : ℕ) (inputs : Inputs MatChunk) → what
     → (trees : List (Tree MatChunk)) → Shows inputs trees → IsDefined (kind_of what height) trees
     → IsSound arity_of matrices (kind_of what height) trees (add_answer (leaf_shown inputs.first) (leaf_shown inputs.second))
 add_sound Assign height inputs e l there trees shows d = cc
+add_sound Mul height inputs e l there trees shows d = cc
+add_sound TMul height inputs e l there trees shows d = cc
+add_sound MulT height inputs e l there trees shows d = cc
+add_sound Transpose height inputs e l there trees shows d = cc
 add_sound AddNum height inputs e l there trees shows d = cc
 add_sound Join height inputs e l there trees shows d = cc
 add_sound Trace height inputs e l there trees shows d = cc
@@ -128,6 +140,10 @@ pub leaves_fit : (what : What) (height : ℕ) (inputs : Inputs MatChunk) → wha
     → (trees : List (Tree MatChunk)) → Shows inputs trees → IsDefined (kind_of what height) trees
     → LeavesFit (leaf_shown inputs.first) (leaf_shown inputs.second)
 leaves_fit Assign height inputs e l trees shows d = cc
+leaves_fit Mul height inputs e l trees shows d = cc
+leaves_fit TMul height inputs e l trees shows d = cc
+leaves_fit MulT height inputs e l trees shows d = cc
+leaves_fit Transpose height inputs e l trees shows d = cc
 leaves_fit AddNum height inputs e l trees shows d = cc
 leaves_fit Join height inputs e l trees shows d = cc
 leaves_fit Trace height inputs e l trees shows d = cc

@@ -11,7 +11,7 @@ use Rattle.task_types.proofs.Shown.{presences_in-shown, first-shown_one}
 use Rattle.quad_matrix.specs.declared.chunk.MatChunk.{MatChunk}
 use Rattle.quad_matrix.specs.declared.chunk.MatChunk.TheVariants as chunk
 use Rattle.quad_matrix.specs.declared.kind.What.{What}
-use Rattle.quad_matrix.specs.declared.kind.What.TheVariants.{Assign, Add, Join, Trace, AddNum}
+use Rattle.quad_matrix.specs.declared.kind.What.TheVariants.{Assign, Add, Mul, TMul, MulT, Transpose, Join, Trace, AddNum}
 use Rattle.quad_matrix.specs.Chunks.{arity_of}
 use Rattle.quad_matrix.specs.Blocks.{block_of}
 use Rattle.quad_matrix.specs.Goals.{kind_of, FitsAt, IsDefined, IsList}
@@ -37,6 +37,10 @@ pub trace_sound : (what : What) (height : ℕ) (inputs : Inputs MatChunk) → wh
     → (trees : List (Tree MatChunk)) → Shows inputs trees → IsDefined (kind_of what height) trees
     → IsSound arity_of matrices (kind_of what height) trees (trace_answer (leaf_shown inputs.first))
 trace_sound Assign height inputs e l there trees shows d = cc
+trace_sound Mul height inputs e l there trees shows d = cc
+trace_sound TMul height inputs e l there trees shows d = cc
+trace_sound MulT height inputs e l there trees shows d = cc
+trace_sound Transpose height inputs e l there trees shows d = cc
 trace_sound AddNum height inputs e l there trees shows d = cc
 trace_sound Join height inputs e l there trees shows d = cc
 trace_sound Add height inputs e l there trees shows d = cc
@@ -55,6 +59,10 @@ pub leaf_fits : (what : What) (height : ℕ) (inputs : Inputs MatChunk) → what
     → (trees : List (Tree MatChunk)) → Shows inputs trees → IsDefined (kind_of what height) trees
     → LeafFits (leaf_shown inputs.first)
 leaf_fits Assign height inputs e l trees shows d = cc
+leaf_fits Mul height inputs e l trees shows d = cc
+leaf_fits TMul height inputs e l trees shows d = cc
+leaf_fits MulT height inputs e l trees shows d = cc
+leaf_fits Transpose height inputs e l trees shows d = cc
 leaf_fits AddNum height inputs e l trees shows d = cc
 leaf_fits Join height inputs e l trees shows d = cc
 leaf_fits Add height inputs e l trees shows d = cc
@@ -81,6 +89,10 @@ pub assign_sound : (what : What) (height : ℕ) (inputs : Inputs MatChunk) → w
     → (trees : List (Tree MatChunk)) → Shows inputs trees → IsDefined (kind_of what height) trees
     → IsSound arity_of matrices (kind_of what height) trees (assign_answer (entries_shown inputs.first))
 assign_sound Trace height inputs e l there trees shows d = cc
+assign_sound Mul height inputs e l there trees shows d = cc
+assign_sound TMul height inputs e l there trees shows d = cc
+assign_sound MulT height inputs e l there trees shows d = cc
+assign_sound Transpose height inputs e l there trees shows d = cc
 assign_sound AddNum height inputs e l there trees shows d = cc
 assign_sound Join height inputs e l there trees shows d = cc
 assign_sound Add height inputs e l there trees shows d = cc
@@ -102,6 +114,10 @@ pub entries_fit : (what : What) (height : ℕ) (inputs : Inputs MatChunk) → wh
     → (trees : List (Tree MatChunk)) → Shows inputs trees → IsDefined (kind_of what height) trees
     → AreForLeaf (entries_shown inputs.first)
 entries_fit Trace height inputs e l trees shows d = cc
+entries_fit Mul height inputs e l trees shows d = cc
+entries_fit TMul height inputs e l trees shows d = cc
+entries_fit MulT height inputs e l trees shows d = cc
+entries_fit Transpose height inputs e l trees shows d = cc
 entries_fit AddNum height inputs e l trees shows d = cc
 entries_fit Join height inputs e l trees shows d = cc
 entries_fit Add height inputs e l trees shows d = cc

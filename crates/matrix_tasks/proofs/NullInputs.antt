@@ -11,7 +11,7 @@ use Rattle.task_types.specs.Sound.{IsSound}
 use Rattle.task_types.proofs.Shown.{presences_in-shown}
 use Rattle.quad_matrix.specs.declared.chunk.MatChunk.{MatChunk}
 use Rattle.quad_matrix.specs.declared.kind.What.{What}
-use Rattle.quad_matrix.specs.declared.kind.What.TheVariants.{Assign, Add, Join, Trace, AddNum}
+use Rattle.quad_matrix.specs.declared.kind.What.TheVariants.{Assign, Add, Mul, TMul, MulT, Transpose, Join, Trace, AddNum}
 use Rattle.quad_matrix.specs.Chunks.{arity_of}
 use Rattle.quad_matrix.specs.Goals.{kind_of, FitsAt, IsDefined}
 use Rattle.quad_matrix.specs.Matrices.{matrices}
@@ -19,10 +19,28 @@ use Rattle.task_plans.specs.Plans.{given_shape}
 use Rattle.quad_matrix.proofs.ForOthers.{add_with_nothing, add_nothing_with, add_nothing}
 use Rattle.quad_matrix.proofs.ForOthers.{addnum_with_nothing, addnum_nothing_with, trace_of_nothing}
 use Rattle.quad_matrix.proofs.ForOthers.{goal_any, assign_nothing}
+use Rattle.quad_matrix.specs.Blocks.{IsCanonical}
+use Rattle.quad_matrix.specs.Products.{Turned, Neither, First, Second, product_what}
+use Rattle.quad_matrix.proofs.ForOthers.{product_goal, product_goal_is, fits_product, product_nothing_with, product_with_nothing, transpose_of_nothing}
 use Rattle.task_plans.specs.Outcomes.{given}
 use Rattle.matrix_tasks.specs.Answers.{null_place}
 use Rattle.task_plans.proofs.ForOthers.{given_sound}
 use Rattle.matrix_tasks.proofs.Joins.{shapes_open}
+use Rattle.matrix_tasks.proofs.Factors.{null_open}
+
+-- a product of which a factor is null
+null_product : (b : ℕ) (turned : Turned) (h : ℕ) (x y : Tree MatChunk) → h ≤ 16 → FitsAt b (product_what turned) h (x ∷ y ∷ []) → all_present (map presence_of (x ∷ y ∷ [])) ≡ false
+    → IsSound arity_of matrices (kind_of (product_what turned) h) (x ∷ y ∷ []) (given Null)
+null_product b turned h x y low fits null =
+    let both = fits_product b h turned x y fits in
+    given_sound arity_of matrices (kind_of (product_what turned) h) (x ∷ y ∷ []) Null refl
+    (sym (goal_any b (product_what turned) h (x ∷ y ∷ []) fits ∙ product_goal_is b h turned x y ∙ absent b h turned x y both.0 both.1 null))
+    (null_open turned h (presence_of x) (presence_of y) low null)
+  where
+    absent : (b h : ℕ) (turned : Turned) (x y : Tree MatChunk) → IsCanonical b h x → IsCanonical b h y → all_present (map presence_of (x ∷ y ∷ [])) ≡ false → product_goal b h turned x y ≡ Nothing
+    absent b h turned Nothing y ix iy e = product_nothing_with b h turned y iy
+    absent b h turned (Root c x0 x1 x2 x3) Nothing ix iy e = product_with_nothing b h turned (Root c x0 x1 x2 x3) ix
+    absent b h turned (Root c x0 x1 x2 x3) (Root d y0 y1 y2 y3) ix iy e = absurd (false≢true (sym e))
 
 null_at : (b : ℕ) (what : What) (h : ℕ) (trees : List (Tree MatChunk)) → (what ≡ Join → ⊥) → h ≤ 16 → FitsAt b what h trees
     → all_present (map presence_of trees) ≡ false
@@ -40,6 +58,24 @@ null_at b Trace h (Nothing ∷ []) other low fits null =
     given_sound arity_of matrices (kind_of Trace h) (Nothing ∷ []) Null refl (sym (goal_any b Trace h (Nothing ∷ []) fits ∙ trace_of_nothing b h))
     (subst (IsOneOf (given_shape Null)) (sym (shapes_open Trace h (Absent ∷ []) refl (le-leb h 16 low))) (inl refl))
 null_at b Trace h (x ∷ y ∷ trees) other low fits null = absurd fits
+null_at b Mul h [] other low fits null = absurd fits
+null_at b Mul h (x ∷ []) other low fits null = absurd fits
+null_at b Mul h (x ∷ y ∷ []) other low fits null = null_product b Neither h x y low fits null
+null_at b Mul h (x ∷ y ∷ z ∷ trees) other low fits null = absurd fits
+null_at b TMul h [] other low fits null = absurd fits
+null_at b TMul h (x ∷ []) other low fits null = absurd fits
+null_at b TMul h (x ∷ y ∷ []) other low fits null = null_product b First h x y low fits null
+null_at b TMul h (x ∷ y ∷ z ∷ trees) other low fits null = absurd fits
+null_at b MulT h [] other low fits null = absurd fits
+null_at b MulT h (x ∷ []) other low fits null = absurd fits
+null_at b MulT h (x ∷ y ∷ []) other low fits null = null_product b Second h x y low fits null
+null_at b MulT h (x ∷ y ∷ z ∷ trees) other low fits null = absurd fits
+null_at b Transpose h [] other low fits null = absurd fits
+null_at b Transpose h (Root c x y z w ∷ []) other low fits null = absurd (false≢true (sym null))
+null_at b Transpose h (Nothing ∷ []) other low fits null =
+    given_sound arity_of matrices (kind_of Transpose h) (Nothing ∷ []) Null refl (sym (goal_any b Transpose h (Nothing ∷ []) fits ∙ transpose_of_nothing b h))
+    (subst (IsOneOf (given_shape Null)) (sym (shapes_open Transpose h (Absent ∷ []) refl (le-leb h 16 low))) (inl refl))
+null_at b Transpose h (x ∷ y ∷ trees) other low fits null = absurd fits
 null_at b Add h [] other low fits null = absurd fits
 null_at b Add h (x ∷ []) other low fits null = absurd fits
 null_at b Add h (Nothing ∷ Nothing ∷ []) other low fits null =

@@ -1,6 +1,6 @@
 -- What the kinds answer without new tasks, as functions of what is shown of the inputs.
 use Rattle.std.specs.Prelude.{◌≡◌, ℕ, ◌≤◌, Bool, true, false, ◌==◌, if◌then◌else◌, max, Option, None, Some, List, [], ℤ, pos, unsigned_abs}
-use Rattle.dense_def.specs.Matrix.{Matrix, height, peak_of, plus, trace_of, SumFits, TraceFits}
+use Rattle.dense_def.specs.Matrix.{Matrix, height, peak_of, plus, transposed, trace_of, SumFits, TraceFits}
 use Rattle.task_types.specs.declared.outcome.Place.{Place}
 use Rattle.task_types.specs.declared.outcome.Place.TheVariants.{Null}
 use Rattle.task_types.specs.declared.outcome.Outcome.{Outcome}
@@ -17,10 +17,11 @@ use Rattle.quad_matrix.specs.declared.chunk.MatChunk.TheVariants.{Leaf, Node, Nu
 use Rattle.quad_matrix.specs.declared.chunk.MatChunk.TheVariants as chunk
 use Rattle.quad_matrix.specs.declared.chunk.Entries.{Entries}
 use Rattle.quad_matrix.specs.declared.kind.What.{What}
-use Rattle.quad_matrix.specs.declared.kind.What.TheVariants.{Assign, Add, Join, Trace, AddNum}
+use Rattle.quad_matrix.specs.declared.kind.What.TheVariants.{Assign, Add, Mul, TMul, MulT, Transpose, Join, Trace, AddNum}
 use Rattle.quad_matrix.specs.declared.kind.MatKind.{MatKind}
 use Rattle.quad_matrix.specs.Spots.{AreSoundEntries, block_of_spots}
 use Rattle.quad_matrix.specs.Chunks.{peak_in}
+use Rattle.quad_matrix.specs.Products.{Turned, product_of, FactorsFit}
 use Rattle.quad_matrix.specs.Plans.{join_places}
 
 -- ---- Kinds
@@ -29,6 +30,10 @@ use Rattle.quad_matrix.specs.Plans.{join_places}
 abbrev pub is_general : What → Bool
 is_general Assign = true
 is_general Add = true
+is_general Mul = true
+is_general TMul = true
+is_general MulT = true
+is_general Transpose = true
 is_general Join = true
 is_general Trace = true
 is_general AddNum = true
@@ -77,6 +82,10 @@ NodeFits height inputs = are_null (join_places (presences_in inputs)) ≡ false 
 abbrev pub null_place : What → List Presence → Place
 null_place Assign known = Null
 null_place Add known = other_place known
+null_place Mul known = Null
+null_place TMul known = Null
+null_place MulT known = Null
+null_place Transpose known = Null
 null_place Join known = Null
 null_place Trace known = Null
 null_place AddNum known = other_place known
@@ -97,6 +106,27 @@ LeavesFit None other = Unit {0}
 abbrev pub add_answer : Option Matrix → Option Matrix → Outcome MatChunk MatKind
 add_answer (Some m) (Some n) = leaf_outcome (plus m n)
 add_answer one other = given Null
+
+-- two leaves have one side, of at most 64, and the terms of their product fit
+abbrev pub FactorsAreLeaves : Turned → Option Matrix → Option Matrix → Type 0
+FactorsAreLeaves turned (Some m) (Some n) = (height m ≡ height n) × (height m ≤ 64) × FactorsFit turned m n
+FactorsAreLeaves turned (Some m) None = Unit {0}
+FactorsAreLeaves turned None other = Unit {0}
+
+-- the product of two leaves
+abbrev pub product_answer : Turned → Option Matrix → Option Matrix → Outcome MatChunk MatKind
+product_answer turned (Some m) (Some n) = leaf_outcome (product_of turned m n)
+product_answer turned one other = given Null
+
+-- a leaf has a side of at most 64
+abbrev pub IsLeaf : Option Matrix → Type 0
+IsLeaf (Some m) = height m ≤ 64
+IsLeaf None = Unit {0}
+
+-- the transpose of a leaf
+abbrev pub transpose_answer : Option Matrix → Outcome MatChunk MatKind
+transpose_answer (Some m) = leaf_outcome (transposed m)
+transpose_answer None = given Null
 
 -- the terms of the trace of a leaf fit
 abbrev pub LeafFits : Option Matrix → Type 0

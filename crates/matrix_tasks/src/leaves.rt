@@ -1,6 +1,7 @@
 // Kinds at height 0.
 ghost use Rattle.std.specs.Prelude.{◌≡◌, IfOk, option_copied};
-ghost use Rattle.matrix_tasks.specs.Answers.{leaf_shown, LeavesFit, add_answer, LeafFits, trace_answer, entries_shown, AreForLeaf, assign_answer};
+ghost use Rattle.quad_matrix.specs.Products.{Neither, First, Second};
+ghost use Rattle.matrix_tasks.specs.Answers.{leaf_shown, LeavesFit, add_answer, FactorsAreLeaves, product_answer, IsLeaf, transpose_answer, LeafFits, trace_answer, entries_shown, AreForLeaf, assign_answer};
 
 use crate::outcomes::{leaf, number};
 use cht_ids::Memory;
@@ -22,6 +23,65 @@ pub(crate) fn add(
     match (leaf_shown(&inputs.first), leaf_shown(&inputs.second)) {
         (Some(first), Some(second)) => leaf(alloc, first.add(second)?),
         _ => Ok(given(alloc, Place::Null)),
+    }
+}
+
+// The product of two leaves, or null where it is zero.
+pub(crate) fn mul(
+    alloc: Global,
+    inputs: &Inputs<MatChunk>,
+) -> Result<Outcome<MatChunk, MatKind>, Memory>
+    requires { FactorsAreLeaves Neither (leaf_shown inputs.now.first) (leaf_shown inputs.now.second) }
+    ensures { IfOk result
+        (λ outcome. outcome ≡ product_answer Neither (leaf_shown inputs.now.first) (leaf_shown inputs.now.second)) }
+{
+    match (leaf_shown(&inputs.first), leaf_shown(&inputs.second)) {
+        (Some(first), Some(second)) => leaf(alloc, first.mul(second)?),
+        _ => Ok(given(alloc, Place::Null)),
+    }
+}
+
+// The product of the transpose of a leaf with another leaf, or null where it is zero.
+pub(crate) fn tmul(
+    alloc: Global,
+    inputs: &Inputs<MatChunk>,
+) -> Result<Outcome<MatChunk, MatKind>, Memory>
+    requires { FactorsAreLeaves First (leaf_shown inputs.now.first) (leaf_shown inputs.now.second) }
+    ensures { IfOk result
+        (λ outcome. outcome ≡ product_answer First (leaf_shown inputs.now.first) (leaf_shown inputs.now.second)) }
+{
+    match (leaf_shown(&inputs.first), leaf_shown(&inputs.second)) {
+        (Some(first), Some(second)) => leaf(alloc, first.tmul(second)?),
+        _ => Ok(given(alloc, Place::Null)),
+    }
+}
+
+// The product of a leaf with the transpose of another, or null where it is zero.
+pub(crate) fn mult(
+    alloc: Global,
+    inputs: &Inputs<MatChunk>,
+) -> Result<Outcome<MatChunk, MatKind>, Memory>
+    requires { FactorsAreLeaves Second (leaf_shown inputs.now.first) (leaf_shown inputs.now.second) }
+    ensures { IfOk result
+        (λ outcome. outcome ≡ product_answer Second (leaf_shown inputs.now.first) (leaf_shown inputs.now.second)) }
+{
+    match (leaf_shown(&inputs.first), leaf_shown(&inputs.second)) {
+        (Some(first), Some(second)) => leaf(alloc, first.mult(second)?),
+        _ => Ok(given(alloc, Place::Null)),
+    }
+}
+
+// The transpose of a leaf, or null where it is zero.
+pub(crate) fn transpose(
+    alloc: Global,
+    inputs: &Inputs<MatChunk>,
+) -> Result<Outcome<MatChunk, MatKind>, Memory>
+    requires { IsLeaf (leaf_shown inputs.now.first) }
+    ensures { IfOk result (λ outcome. outcome ≡ transpose_answer (leaf_shown inputs.now.first)) }
+{
+    match leaf_shown(&inputs.first) {
+        Some(block) => leaf(alloc, block.transpose()?),
+        None => Ok(given(alloc, Place::Null)),
     }
 }
 

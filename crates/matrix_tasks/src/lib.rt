@@ -60,6 +60,10 @@ fn at_height_0(
     match kind.what {
         What::Assign => leaves::assign(alloc, inputs),
         What::Add => leaves::add(alloc, inputs),
+        What::Mul => leaves::mul(alloc, inputs),
+        What::TMul => leaves::tmul(alloc, inputs),
+        What::MulT => leaves::mult(alloc, inputs),
+        What::Transpose => leaves::transpose(alloc, inputs),
         What::Trace => leaves::trace(alloc, inputs),
         What::AddNum => numbers::add(alloc, inputs),
         What::Join => nodes::join(alloc, kind.height, inputs),

@@ -14,5 +14,6 @@ pub(crate) fn null_place(what: What, inputs: &Inputs<MatChunk>) -> Place
     match what {
         What::Add | What::AddNum => other_place(inputs),
         What::Assign | What::Join | What::Trace => Place::Null,
+        What::Mul | What::TMul | What::MulT | What::Transpose => Place::Null,
     }
 }

@@ -21,7 +21,7 @@ use Rattle.task_plans.proofs.ForOthers.{either_work, either_null, ended_work}
 use Rattle.quad_matrix.proofs.DraftWorks.{total, draft_work}
 
 -- no part is there where none of four is
-null_any : (a b c d : Bool) → ((((true && not a) && not b) && not c) && not d) ≡ not (a || b || c || d)
+pub null_any : (a b c d : Bool) → ((((true && not a) && not b) && not c) && not d) ≡ not (a || b || c || d)
 null_any true b c d = refl
 null_any false true c d = refl
 null_any false false true d = refl
@@ -121,7 +121,7 @@ abbrev lower_term : Term What
 lower_term = term_on Trace (Child 0 3 ∷ [])
 
 -- the works of the one part of a trace
-trace_total : (trees chunks : List (Tree MatChunk)) (low height : ℕ) (a d : Bool) → total trees chunks (ended (kind_at height) Single (with_pair no_draft (term_task (kind_at low) upper_term) (term_task (kind_at low) lower_term) (kind_at low AddNum) a d)) ≡ sum (pair_works a d (work_of (kind_of Trace low) (child (tree_at trees 0) 0 ∷ [])) (work_of (kind_of Trace low) (child (tree_at trees 0) 3 ∷ [])))
+trace_total : (trees chunks : List (Tree MatChunk)) (low height : ℕ) (a d : Bool) → total trees chunks (ended (kind_at height) Single (with_pair no_draft (term_task (kind_at low) upper_term) (term_task (kind_at low) lower_term) (kind_at low AddNum) a d)) ≡ sum (pair_works a d (work_of (kind_of Trace low) (child (tree_at trees 0) 0 ∷ [])) (work_of (kind_of Trace low) (child (tree_at trees 0) 3 ∷ [])) 1)
 trace_total trees chunks low height false false = refl
 trace_total trees chunks low height true false = refl
 trace_total trees chunks low height false true = refl

@@ -4,14 +4,17 @@ use Rattle.std.specs.List.{AllByRecursion}
 use Rattle.task_types.specs.Tree.{Tree, Nothing, Root}
 use Rattle.quad_matrix.specs.declared.chunk.MatChunk.{MatChunk}
 use Rattle.quad_matrix.specs.declared.kind.What.{What}
-use Rattle.quad_matrix.specs.declared.kind.What.TheVariants.{Assign, Add, Join, Trace, AddNum}
+use Rattle.quad_matrix.specs.declared.kind.What.TheVariants.{Assign, Add, Mul, TMul, MulT, Transpose, Join, Trace, AddNum}
 use Rattle.chunk_codec.specs.Spots.{side_of}
 use Rattle.quad_matrix.specs.Blocks.{leaf_in, block_of, IsCanonical}
 use Rattle.quad_matrix.specs.Goals.{kind_of, goal_at, goal_of, FitsAt}
-use Rattle.quad_matrix.proofs.Canonical.{canonical_zero, peak-zeros}
+use Rattle.quad_matrix.specs.Products.{Turned, Neither, First, Second, product_what}
+use Rattle.quad_matrix.proofs.Canonical.{canonical_zero, nothing_is_canonical, peak-zeros}
 use Rattle.quad_matrix.proofs.Quadrants.{join_nothing}
 use Rattle.quad_matrix.proofs.Leaves.{leaf_in_canonical, leaf_of_list}
 use Rattle.quad_matrix.proofs.Sums.{add_nothing, join_goal, join_fits}
+use Rattle.quad_matrix.proofs.Products.{product_goal_is, product_nothing_with}
+use Rattle.quad_matrix.proofs.Transposes.{transpose_of_nothing}
 use Rattle.quad_matrix.proofs.Numbers.{trace_of_nothing}
 
 -- the goal of an assignment of nothing is nothing
@@ -45,6 +48,17 @@ add_any b h x y ix iy =
 trace_any : (b h : ℕ) (x : Tree MatChunk) → IsCanonical b h x → goal_of (kind_of Trace h) (x ∷ []) ≡ goal_at b Trace h (x ∷ [])
 trace_any b h x ix = at_leaf b h Trace h (x ∷ []) (ix, tt) (λ c none. rw none.0 (trace_of_nothing c h))
 
+-- the goal of a product at another side
+product_any : (b h : ℕ) (turned : Turned) (x y : Tree MatChunk) → IsCanonical b h x → IsCanonical b h y → goal_of (kind_of (product_what turned) h) (x ∷ y ∷ []) ≡ goal_at b (product_what turned) h (x ∷ y ∷ [])
+product_any b h turned x y ix iy =
+    at_leaf b h (product_what turned) h (x ∷ y ∷ []) (ix, (iy, tt))
+    (λ c none. rw (none.0, none.1.0) (product_goal_is c h turned Nothing Nothing ∙ product_nothing_with c h turned Nothing (nothing_is_canonical c h)))
+
+-- the goal of a transpose at another side
+transpose_any : (b h : ℕ) (x : Tree MatChunk) → IsCanonical b h x → goal_of (kind_of Transpose h) (x ∷ []) ≡ goal_at b Transpose h (x ∷ [])
+transpose_any b h x ix =
+    at_leaf b h Transpose h (x ∷ []) (ix, tt) (λ c none. rw none.0 (transpose_of_nothing c h))
+
 -- the goal of a kind that fits at some side of the leaves is the goal at that side
 pub goal_any : (b : ℕ) (what : What) (h : ℕ) (trees : List (Tree MatChunk)) → FitsAt b what h trees → goal_of (kind_of what h) trees ≡ goal_at b what h trees
 goal_any b Assign h (Nothing ∷ []) fits = assign_nothing (leaf_in (Nothing ∷ [])) h ∙ sym (assign_nothing b h)
@@ -57,6 +71,21 @@ goal_any b Add h (x ∷ y ∷ []) fits = add_any b h x y fits.0 fits.1
 goal_any b Add h [] fits = absurd fits
 goal_any b Add h (x ∷ []) fits = absurd fits
 goal_any b Add h (x ∷ y ∷ z ∷ trees) fits = absurd fits
+goal_any b Mul h (x ∷ y ∷ []) fits = product_any b h Neither x y fits.0 fits.1
+goal_any b Mul h [] fits = absurd fits
+goal_any b Mul h (x ∷ []) fits = absurd fits
+goal_any b Mul h (x ∷ y ∷ z ∷ trees) fits = absurd fits
+goal_any b TMul h (x ∷ y ∷ []) fits = product_any b h First x y fits.0 fits.1
+goal_any b TMul h [] fits = absurd fits
+goal_any b TMul h (x ∷ []) fits = absurd fits
+goal_any b TMul h (x ∷ y ∷ z ∷ trees) fits = absurd fits
+goal_any b MulT h (x ∷ y ∷ []) fits = product_any b h Second x y fits.0 fits.1
+goal_any b MulT h [] fits = absurd fits
+goal_any b MulT h (x ∷ []) fits = absurd fits
+goal_any b MulT h (x ∷ y ∷ z ∷ trees) fits = absurd fits
+goal_any b Transpose h (x ∷ []) fits = transpose_any b h x fits
+goal_any b Transpose h [] fits = absurd fits
+goal_any b Transpose h (x ∷ y ∷ trees) fits = absurd fits
 goal_any b Join (suc h) (x ∷ y ∷ z ∷ w ∷ []) fits =
     let low = join_fits b h x y z w fits in join_any b h x y z w low.0 low.1 low.2 low.3
 goal_any b Join zero (x ∷ y ∷ z ∷ w ∷ []) fits = absurd (omega (arith, fits.0))

@@ -13,6 +13,10 @@ pub use Rattle.quad_matrix.proofs.Lists.{spots_whole, spots_tall, assign_canonic
 pub use Rattle.quad_matrix.proofs.AnySide.{goal_any, assign_nothing, join_goal_nothing}
 pub use Rattle.quad_matrix.proofs.Sums.{add_canonical, fits_join, join_goal, join_fits, child_sum, add_on_children, add_is_join, add_with_nothing, add_nothing_with, add_nothing}
 pub use Rattle.quad_matrix.proofs.Numbers.{trace_first, trace_last, trace_fits, trace_on_children, trace_of_nothing, addnum_with_nothing, addnum_nothing_with, addnum_is_number}
+-- the three products, over how their factors stand, and transposes
+pub use Rattle.quad_matrix.proofs.Products.{product_goal, product_goal_is, ProductFitsAt, fits_product, product_fits_at, product_canonical, block_of_product, product_nothing_with, product_with_nothing, term_tree, quadrant_tree, first_term_fits, second_term_fits, quadrant_fits, product_is_join, product_fits_by_peaks, product_goal_stands}
+pub use Rattle.quad_matrix.proofs.Transposes.{transpose_canonical, block_of_transpose, transpose_of_nothing, child_turned, transpose_is_join}
+pub use Rattle.quad_matrix.proofs.ProductWorks.{child_known}
 -- portions of lists of entries
 pub use Rattle.quad_matrix.proofs.SoundPortions.{portions_are_sound}
 pub use Rattle.quad_matrix.proofs.PartBlocks.{half_is}

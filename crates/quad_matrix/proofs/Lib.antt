@@ -4,6 +4,8 @@ pub mod Roots
 pub mod Quadrants
 pub mod Leaves
 pub mod Sums
+pub mod Products
+pub mod Transposes
 pub mod Numbers
 pub mod AnySide
 pub mod Lists
@@ -12,6 +14,7 @@ pub mod Peaks
 pub mod Names
 pub mod DraftWorks
 pub mod AddWorks
+pub mod ProductWorks
 pub mod AssignParts
 pub mod AssignWorks
 pub mod WorkLaws

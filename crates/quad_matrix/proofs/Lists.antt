@@ -12,13 +12,16 @@ use Rattle.quad_matrix.specs.declared.chunk.Entries.{Entries}
 use Rattle.quad_matrix.specs.declared.chunk.MatChunk.{MatChunk}
 use Rattle.quad_matrix.specs.declared.chunk.MatChunk.TheVariants as chunk
 use Rattle.quad_matrix.specs.declared.kind.What.{What}
-use Rattle.quad_matrix.specs.declared.kind.What.TheVariants.{Assign, Add, Join, Trace, AddNum}
+use Rattle.quad_matrix.specs.declared.kind.What.TheVariants.{Assign, Add, Mul, TMul, MulT, Transpose, Join, Trace, AddNum}
 use Rattle.chunk_codec.specs.Spots.{side_of, IsSpot}
 use Rattle.quad_matrix.specs.Spots.{is_at, spot_value, block_of_spots, block_listed, AreSoundEntries}
 use Rattle.quad_matrix.specs.Blocks.{block_of, IsCanonical}
+use Rattle.quad_matrix.specs.Products.{Neither, First, Second}
 use Rattle.quad_matrix.specs.Goals.{IsList, FitsAt, goal_at, IsOutput}
 use Rattle.quad_matrix.proofs.Canonical.{canonical_of_block, nothing_is_canonical}
 use Rattle.quad_matrix.proofs.Sums.{add_canonical, join_goal_canonical}
+use Rattle.quad_matrix.proofs.Products.{product_canonical}
+use Rattle.quad_matrix.proofs.Transposes.{transpose_canonical}
 use Rattle.quad_matrix.proofs.Numbers.{zero_from_abs, trace_is_number, addnum_is_number}
 
 -- the number at each place of a list of entries has 64 bits
@@ -103,6 +106,21 @@ goal_is_canonical b Add h (x ∷ y ∷ []) fits = add_canonical b h x y fits
 goal_is_canonical b Add h [] fits = absurd fits
 goal_is_canonical b Add h (x ∷ []) fits = absurd fits
 goal_is_canonical b Add h (x ∷ y ∷ z ∷ trees) fits = absurd fits
+goal_is_canonical b Mul h (x ∷ y ∷ []) fits = product_canonical b h Neither x y fits
+goal_is_canonical b Mul h [] fits = absurd fits
+goal_is_canonical b Mul h (x ∷ []) fits = absurd fits
+goal_is_canonical b Mul h (x ∷ y ∷ z ∷ trees) fits = absurd fits
+goal_is_canonical b TMul h (x ∷ y ∷ []) fits = product_canonical b h First x y fits
+goal_is_canonical b TMul h [] fits = absurd fits
+goal_is_canonical b TMul h (x ∷ []) fits = absurd fits
+goal_is_canonical b TMul h (x ∷ y ∷ z ∷ trees) fits = absurd fits
+goal_is_canonical b MulT h (x ∷ y ∷ []) fits = product_canonical b h Second x y fits
+goal_is_canonical b MulT h [] fits = absurd fits
+goal_is_canonical b MulT h (x ∷ []) fits = absurd fits
+goal_is_canonical b MulT h (x ∷ y ∷ z ∷ trees) fits = absurd fits
+goal_is_canonical b Transpose h (x ∷ []) fits = transpose_canonical b h x fits
+goal_is_canonical b Transpose h [] fits = absurd fits
+goal_is_canonical b Transpose h (x ∷ y ∷ trees) fits = absurd fits
 goal_is_canonical b Join h (x ∷ y ∷ z ∷ w ∷ []) fits = join_goal_canonical b h x y z w fits
 goal_is_canonical b Join h [] fits = absurd fits
 goal_is_canonical b Join h (x ∷ []) fits = absurd fits

@@ -1,5 +1,5 @@
 -- The laws that the library of matrices keeps.
-use Rattle.std.proofs.Common.{◌≡◌, ℕ, zero, suc, ◌+◌, ◌≤◌, Bool, false, cond, not, ◌&&◌, ◌==◌, ◌<◌, List, [], ◌∷◌, ◌++◌, length, map, sum, inl, inr, refl, sym, ap, ◌∙◌, lit≤, eq-eqb, arith}
+use Rattle.std.proofs.Common.{◌≡◌, ℕ, zero, suc, ◌+◌, ◌≤◌, Bool, true, false, cond, not, ◌&&◌, ◌==◌, ◌<◌, List, [], ◌∷◌, ◌++◌, length, map, sum, inl, inr, refl, sym, ap, ◌∙◌, lit≤, eq-eqb, arith}
 use Rattle.std.proofs.lemmas.Bool.{cond_both}
 use Rattle.dense_def.specs.Matrix.{block, zeros, peak_of}
 use Rattle.dense_def.proofs.Blocks.{height-block, entry-block}
@@ -7,14 +7,14 @@ use Rattle.dense_def.proofs.Peaks.{peak-zero}
 use Rattle.dense_def.proofs.Zeros.{entry-zeros}
 use Rattle.task_types.specs.declared.outcome.Place.TheVariants.{Null, Input, Chunk}
 use Rattle.task_types.specs.declared.outcome.Outcome.{Outcome}
-use Rattle.task_types.specs.Tree.{Tree, Nothing, Root}
+use Rattle.task_types.specs.Tree.{Tree, Nothing, Root, child, is_there}
 use Rattle.task_types.specs.Presence.{Presence, Absent, presence_of, has_child, all_present}
 use Rattle.task_types.specs.Places.{Shape, shape_of, filled, shape_from, IsOneOf}
 use Rattle.task_types.specs.Reading.{new_trees}
 use Rattle.task_types.specs.Sound.{IsSound, HasFewInputs, AddsUp, new_work}
 use Rattle.quad_matrix.specs.declared.chunk.MatChunk.{MatChunk}
 use Rattle.quad_matrix.specs.declared.kind.What.{What}
-use Rattle.quad_matrix.specs.declared.kind.What.TheVariants.{Assign, Add, Join, Trace, AddNum}
+use Rattle.quad_matrix.specs.declared.kind.What.TheVariants.{Assign, Add, Mul, TMul, MulT, Transpose, Join, Trace, AddNum}
 use Rattle.quad_matrix.specs.declared.kind.MatKind.{MatKind}
 use Rattle.quad_matrix.specs.Chunks.{arity_of}
 use Rattle.chunk_codec.specs.Spots.{side_of}
@@ -22,7 +22,8 @@ use Rattle.quad_matrix.specs.Blocks.{block_of, upper_left, upper_right, lower_le
 use Rattle.quad_matrix.specs.Goals.{kind_of, kind_at, FitsAt, IsList}
 use Rattle.task_plans.specs.Plans.{planned_shape, choices, given_shape, are_null, chunk_shape}
 use Rattle.quad_matrix.specs.Plans.{plan_of, joined_shape, join_places, null_shape, shapes_of, full_shapes, inputs_of, may_have}
-use Rattle.quad_matrix.specs.Works.{asked, has_number, assign_work, add_work, trace_work, work_at}
+use Rattle.quad_matrix.specs.Products.{Turned, Neither, First, Second, first_child}
+use Rattle.quad_matrix.specs.Works.{asked, has_number, assign_work, add_work, trace_work, transpose_work, product_work, is_term, work_at}
 use Rattle.quad_matrix.specs.Matrices.{matrices}
 use Rattle.quad_matrix.proofs.Sides.{suc-sub_one}
 use Rattle.quad_matrix.proofs.Canonical.{peak-zeros}
@@ -30,6 +31,7 @@ use Rattle.quad_matrix.proofs.Leaves.{leaf_of_list}
 use Rattle.task_plans.proofs.ForOthers.{one_of_cond, one_of_one, one_of_same, one_of_choices}
 use Rattle.quad_matrix.proofs.DraftWorks.{total}
 use Rattle.quad_matrix.proofs.AddWorks.{add_works, trace_works}
+use Rattle.quad_matrix.proofs.ProductWorks.{product_works, transpose_works}
 use Rattle.quad_matrix.proofs.AssignParts.{assign_shape}
 use Rattle.quad_matrix.proofs.AssignWorks.{assign_work_is}
 
@@ -42,6 +44,21 @@ few_trees b Add h (x ∷ y ∷ []) fits = lit≤ tt
 few_trees b Add h [] fits = absurd fits
 few_trees b Add h (x ∷ []) fits = absurd fits
 few_trees b Add h (x ∷ y ∷ z ∷ trees) fits = absurd fits
+few_trees b Mul h (x ∷ y ∷ []) fits = lit≤ tt
+few_trees b Mul h [] fits = absurd fits
+few_trees b Mul h (x ∷ []) fits = absurd fits
+few_trees b Mul h (x ∷ y ∷ z ∷ trees) fits = absurd fits
+few_trees b TMul h (x ∷ y ∷ []) fits = lit≤ tt
+few_trees b TMul h [] fits = absurd fits
+few_trees b TMul h (x ∷ []) fits = absurd fits
+few_trees b TMul h (x ∷ y ∷ z ∷ trees) fits = absurd fits
+few_trees b MulT h (x ∷ y ∷ []) fits = lit≤ tt
+few_trees b MulT h [] fits = absurd fits
+few_trees b MulT h (x ∷ []) fits = absurd fits
+few_trees b MulT h (x ∷ y ∷ z ∷ trees) fits = absurd fits
+few_trees b Transpose h (x ∷ []) fits = lit≤ tt
+few_trees b Transpose h [] fits = absurd fits
+few_trees b Transpose h (x ∷ y ∷ trees) fits = absurd fits
 few_trees b Join h (x ∷ y ∷ z ∷ w ∷ []) fits = lit≤ tt
 few_trees b Join h [] fits = absurd fits
 few_trees b Join h (x ∷ []) fits = absurd fits
@@ -102,6 +119,29 @@ add_work_second (suc h) (Root c x y z w) = refl
 trace_work_nothing : (h : ℕ) → trace_work h Nothing ≡ 1
 trace_work_nothing zero = refl
 trace_work_nothing (suc h) = refl
+
+-- and of a product with nothing
+product_work_first : (turned : Turned) (h : ℕ) (y : Tree MatChunk) → product_work turned h Nothing y ≡ 1
+product_work_first turned zero y = refl
+product_work_first turned (suc h) y = refl
+
+no_term : (turned : Turned) (x : Tree MatChunk) (lower right far : Bool) → is_term turned x Nothing lower right far ≡ false
+no_term turned x lower right far = and_false (is_there (child x (first_child turned lower far)))
+  where
+    and_false : (b : Bool) → (b && false) ≡ false
+    and_false true = refl
+    and_false false = refl
+
+product_work_second : (turned : Turned) (h : ℕ) (x : Tree MatChunk) → product_work turned h x Nothing ≡ 1
+product_work_second turned zero x = refl
+product_work_second turned (suc h) x =
+    rw (no_term turned x false false false, no_term turned x false false true, no_term turned x true false false, no_term turned x true false true)
+    refl
+
+-- and of a transpose of nothing
+transpose_work_nothing : (h : ℕ) → transpose_work h Nothing ≡ 1
+transpose_work_nothing zero = refl
+transpose_work_nothing (suc h) = refl
 
 -- a join asks no tasks
 joined_total : (trees chunks : List (Tree MatChunk)) (known : List Presence) → total trees chunks (joined_shape known) ≡ 0
@@ -175,6 +215,63 @@ works_at b Add (suc h) (Root k x y z w ∷ Root l p q r s ∷ []) chunks shape f
 works_at b Add h [] chunks shape fits other e = absurd fits
 works_at b Add h (x ∷ []) chunks shape fits other e = absurd fits
 works_at b Add h (x ∷ y ∷ z ∷ trees) chunks shape fits other e = absurd fits
+works_at b Mul h (Nothing ∷ y ∷ []) chunks shape fits other e =
+    product_work_first Neither h y ∙ no_tasks (Nothing ∷ y ∷ []) chunks shape (given_shape Null) refl (one_of_one shape (given_shape Null) e)
+works_at b Mul h (Root k x y z w ∷ Nothing ∷ []) chunks shape fits other e =
+    product_work_second Neither h (Root k x y z w)
+    ∙ no_tasks (Root k x y z w ∷ Nothing ∷ []) chunks shape (given_shape Null) refl (one_of_one shape (given_shape Null) e)
+works_at b Mul zero (Root k x y z w ∷ Root l p q r s ∷ []) chunks shape fits other e =
+    low_tasks (Root k x y z w ∷ Root l p q r s ∷ []) chunks shape e
+works_at b Mul (suc h) (Root k x y z w ∷ Root l p q r s ∷ []) chunks shape fits other e =
+    let first = Root k x y z w in
+    let second = Root l p q r s in
+    let known = presence_of first ∷ presence_of second ∷ [] in
+    same_work (first ∷ second ∷ []) chunks shape (planned_shape kind_at (suc h) (plan_of Mul) known Absent) (product_work Neither (suc h) first second)
+    (product_works h Neither first second chunks) (one_of_one shape (planned_shape kind_at (suc h) (plan_of Mul) known Absent) e)
+works_at b Mul h [] chunks shape fits other e = absurd fits
+works_at b Mul h (x ∷ []) chunks shape fits other e = absurd fits
+works_at b Mul h (x ∷ y ∷ z ∷ trees) chunks shape fits other e = absurd fits
+works_at b TMul h (Nothing ∷ y ∷ []) chunks shape fits other e =
+    product_work_first First h y ∙ no_tasks (Nothing ∷ y ∷ []) chunks shape (given_shape Null) refl (one_of_one shape (given_shape Null) e)
+works_at b TMul h (Root k x y z w ∷ Nothing ∷ []) chunks shape fits other e =
+    product_work_second First h (Root k x y z w)
+    ∙ no_tasks (Root k x y z w ∷ Nothing ∷ []) chunks shape (given_shape Null) refl (one_of_one shape (given_shape Null) e)
+works_at b TMul zero (Root k x y z w ∷ Root l p q r s ∷ []) chunks shape fits other e =
+    low_tasks (Root k x y z w ∷ Root l p q r s ∷ []) chunks shape e
+works_at b TMul (suc h) (Root k x y z w ∷ Root l p q r s ∷ []) chunks shape fits other e =
+    let first = Root k x y z w in
+    let second = Root l p q r s in
+    let known = presence_of first ∷ presence_of second ∷ [] in
+    same_work (first ∷ second ∷ []) chunks shape (planned_shape kind_at (suc h) (plan_of TMul) known Absent) (product_work First (suc h) first second)
+    (product_works h First first second chunks) (one_of_one shape (planned_shape kind_at (suc h) (plan_of TMul) known Absent) e)
+works_at b TMul h [] chunks shape fits other e = absurd fits
+works_at b TMul h (x ∷ []) chunks shape fits other e = absurd fits
+works_at b TMul h (x ∷ y ∷ z ∷ trees) chunks shape fits other e = absurd fits
+works_at b MulT h (Nothing ∷ y ∷ []) chunks shape fits other e =
+    product_work_first Second h y ∙ no_tasks (Nothing ∷ y ∷ []) chunks shape (given_shape Null) refl (one_of_one shape (given_shape Null) e)
+works_at b MulT h (Root k x y z w ∷ Nothing ∷ []) chunks shape fits other e =
+    product_work_second Second h (Root k x y z w)
+    ∙ no_tasks (Root k x y z w ∷ Nothing ∷ []) chunks shape (given_shape Null) refl (one_of_one shape (given_shape Null) e)
+works_at b MulT zero (Root k x y z w ∷ Root l p q r s ∷ []) chunks shape fits other e =
+    low_tasks (Root k x y z w ∷ Root l p q r s ∷ []) chunks shape e
+works_at b MulT (suc h) (Root k x y z w ∷ Root l p q r s ∷ []) chunks shape fits other e =
+    let first = Root k x y z w in
+    let second = Root l p q r s in
+    let known = presence_of first ∷ presence_of second ∷ [] in
+    same_work (first ∷ second ∷ []) chunks shape (planned_shape kind_at (suc h) (plan_of MulT) known Absent) (product_work Second (suc h) first second)
+    (product_works h Second first second chunks) (one_of_one shape (planned_shape kind_at (suc h) (plan_of MulT) known Absent) e)
+works_at b MulT h [] chunks shape fits other e = absurd fits
+works_at b MulT h (x ∷ []) chunks shape fits other e = absurd fits
+works_at b MulT h (x ∷ y ∷ z ∷ trees) chunks shape fits other e = absurd fits
+works_at b Transpose h (Nothing ∷ []) chunks shape fits other e =
+    transpose_work_nothing h ∙ no_tasks (Nothing ∷ []) chunks shape (given_shape Null) refl (one_of_one shape (given_shape Null) e)
+works_at b Transpose zero (Root k x y z w ∷ []) chunks shape fits other e = low_tasks (Root k x y z w ∷ []) chunks shape e
+works_at b Transpose (suc h) (Root k x y z w ∷ []) chunks shape fits other e =
+    let known = presence_of (Root k x y z w) ∷ [] in
+    same_work (Root k x y z w ∷ []) chunks shape (planned_shape kind_at (suc h) (plan_of Transpose) known Absent) (transpose_work (suc h) (Root k x y z w))
+    (transpose_works h (Root k x y z w) chunks) (one_of_one shape (planned_shape kind_at (suc h) (plan_of Transpose) known Absent) e)
+works_at b Transpose h [] chunks shape fits other e = absurd fits
+works_at b Transpose h (x ∷ y ∷ trees) chunks shape fits other e = absurd fits
 works_at b Join h (x ∷ y ∷ z ∷ w ∷ []) chunks shape fits other e =
     let trees = x ∷ y ∷ z ∷ w ∷ [] in
     let known = map presence_of trees in
@@ -213,6 +310,14 @@ kind_adds_up b Assign h [] outcome fits sound = absurd fits
 kind_adds_up b Assign h (x ∷ y ∷ trees) outcome fits sound = absurd fits
 kind_adds_up b Add h trees outcome fits sound =
     works_at b Add h trees (new_trees trees outcome) (shape_of outcome) fits (λ e. cc) (in_plan Add h (map presence_of trees) (shape_of outcome) sound.planned)
+kind_adds_up b Mul h trees outcome fits sound =
+    works_at b Mul h trees (new_trees trees outcome) (shape_of outcome) fits (λ e. cc) (in_plan Mul h (map presence_of trees) (shape_of outcome) sound.planned)
+kind_adds_up b TMul h trees outcome fits sound =
+    works_at b TMul h trees (new_trees trees outcome) (shape_of outcome) fits (λ e. cc) (in_plan TMul h (map presence_of trees) (shape_of outcome) sound.planned)
+kind_adds_up b MulT h trees outcome fits sound =
+    works_at b MulT h trees (new_trees trees outcome) (shape_of outcome) fits (λ e. cc) (in_plan MulT h (map presence_of trees) (shape_of outcome) sound.planned)
+kind_adds_up b Transpose h trees outcome fits sound =
+    works_at b Transpose h trees (new_trees trees outcome) (shape_of outcome) fits (λ e. cc) (in_plan Transpose h (map presence_of trees) (shape_of outcome) sound.planned)
 kind_adds_up b Join h trees outcome fits sound =
     works_at b Join h trees (new_trees trees outcome) (shape_of outcome) fits (λ e. cc) (in_plan Join h (map presence_of trees) (shape_of outcome) sound.planned)
 kind_adds_up b Trace h trees outcome fits sound =

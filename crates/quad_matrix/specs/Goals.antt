@@ -1,11 +1,11 @@
 -- What each kind of task asks, as a function of dense values.
 use Rattle.std.specs.Prelude.{◌≡◌, ℕ, ◌+◌, ◌-◌, ◌*◌, ◌^◌, ◌≤◌, Bool, false, List, [], ◌∷◌, ◌+ℤ◌, unsigned_abs}
-use Rattle.dense_def.specs.Matrix.{plus, joined, trace_of, SumFits, TraceFits}
+use Rattle.dense_def.specs.Matrix.{plus, times, tmul_of, mult_of, transposed, joined, trace_of, SumFits, ProductFits, TmulFits, MultFits, TraceFits}
 use Rattle.task_types.specs.Tree.{Tree, Nothing, Root}
 use Rattle.quad_matrix.specs.declared.chunk.MatChunk.{MatChunk}
 use Rattle.quad_matrix.specs.declared.chunk.MatChunk.TheVariants as chunk
 use Rattle.quad_matrix.specs.declared.kind.What.{What}
-use Rattle.quad_matrix.specs.declared.kind.What.TheVariants.{Assign, Add, Join, Trace, AddNum}
+use Rattle.quad_matrix.specs.declared.kind.What.TheVariants.{Assign, Add, Mul, TMul, MulT, Transpose, Join, Trace, AddNum}
 use Rattle.quad_matrix.specs.declared.kind.MatKind.{MatKind}
 use Rattle.quad_matrix.specs.Spots.{AreSoundEntries}
 use Rattle.quad_matrix.specs.Blocks.{block_of, number_of, canonical, number_tree, IsCanonical, IsNumber, leaf_in}
@@ -18,6 +18,10 @@ kind_of what height = record { what = what; height = height }
 abbrev pub kind_at : ℕ → What → MatKind
 kind_at height Assign = kind_of Assign height
 kind_at height Add = kind_of Add height
+kind_at height Mul = kind_of Mul height
+kind_at height TMul = kind_of TMul height
+kind_at height MulT = kind_of MulT height
+kind_at height Transpose = kind_of Transpose height
 kind_at height Join = kind_of Join height
 kind_at height Trace = kind_of Trace height
 kind_at height AddNum = kind_of AddNum 0
@@ -28,12 +32,20 @@ kind_at height AddNum = kind_of AddNum 0
 abbrev pub goal_at : ℕ → What → ℕ → List (Tree MatChunk) → Tree MatChunk
 goal_at b Assign h (x ∷ []) = canonical b h (block_of b h x)
 goal_at b Add h (x ∷ y ∷ []) = canonical b h (plus (block_of b h x) (block_of b h y))
+goal_at b Mul h (x ∷ y ∷ []) = canonical b h (times (block_of b h x) (block_of b h y))
+goal_at b TMul h (x ∷ y ∷ []) = canonical b h (tmul_of (block_of b h x) (block_of b h y))
+goal_at b MulT h (x ∷ y ∷ []) = canonical b h (mult_of (block_of b h x) (block_of b h y))
+goal_at b Transpose h (x ∷ []) = canonical b h (transposed (block_of b h x))
 goal_at b Join h (x ∷ y ∷ z ∷ w ∷ []) =
     canonical b h (joined (block_of b (h - 1) x) (block_of b (h - 1) y) (block_of b (h - 1) z) (block_of b (h - 1) w))
 goal_at b Trace h (x ∷ []) = number_tree (trace_of (block_of b h x))
 goal_at b AddNum h (x ∷ y ∷ []) = number_tree (number_of x +ℤ number_of y)
 goal_at b Assign h trees = Nothing
 goal_at b Add h trees = Nothing
+goal_at b Mul h trees = Nothing
+goal_at b TMul h trees = Nothing
+goal_at b MulT h trees = Nothing
+goal_at b Transpose h trees = Nothing
 goal_at b Join h trees = Nothing
 goal_at b Trace h trees = Nothing
 goal_at b AddNum h trees = Nothing
@@ -56,6 +68,10 @@ IsList b h mirrored (Root content x y z w) = ⊥
 abbrev pub FitsAt : ℕ → What → ℕ → List (Tree MatChunk) → Type 0
 FitsAt b Assign h (x ∷ []) = IsList b h false x
 FitsAt b Add h (x ∷ y ∷ []) = IsCanonical b h x × IsCanonical b h y × SumFits (block_of b h x) (block_of b h y)
+FitsAt b Mul h (x ∷ y ∷ []) = IsCanonical b h x × IsCanonical b h y × ProductFits (block_of b h x) (block_of b h y)
+FitsAt b TMul h (x ∷ y ∷ []) = IsCanonical b h x × IsCanonical b h y × TmulFits (block_of b h x) (block_of b h y)
+FitsAt b MulT h (x ∷ y ∷ []) = IsCanonical b h x × IsCanonical b h y × MultFits (block_of b h x) (block_of b h y)
+FitsAt b Transpose h (x ∷ []) = IsCanonical b h x
 FitsAt b Join h (x ∷ y ∷ z ∷ w ∷ []) =
     (1 ≤ h) × IsCanonical b (h - 1) x × IsCanonical b (h - 1) y × IsCanonical b (h - 1) z × IsCanonical b (h - 1) w
 FitsAt b Trace h (x ∷ []) = IsCanonical b h x × TraceFits (block_of b h x)
@@ -63,6 +79,10 @@ FitsAt b AddNum h (x ∷ y ∷ []) =
     (h ≡ 0) × IsNumber x × IsNumber y × (unsigned_abs (number_of x) + unsigned_abs (number_of y) ≤ 2 ^ 126)
 FitsAt b Assign h trees = ⊥
 FitsAt b Add h trees = ⊥
+FitsAt b Mul h trees = ⊥
+FitsAt b TMul h trees = ⊥
+FitsAt b MulT h trees = ⊥
+FitsAt b Transpose h trees = ⊥
 FitsAt b Join h trees = ⊥
 FitsAt b Trace h trees = ⊥
 FitsAt b AddNum h trees = ⊥
@@ -78,6 +98,10 @@ pub record IsDefined (kind : MatKind) (trees : List (Tree MatChunk)) : Type 0 wh
 abbrev pub IsOutput : ℕ → What → ℕ → Tree MatChunk → Type 0
 IsOutput b Assign h tree = IsCanonical b h tree
 IsOutput b Add h tree = IsCanonical b h tree
+IsOutput b Mul h tree = IsCanonical b h tree
+IsOutput b TMul h tree = IsCanonical b h tree
+IsOutput b MulT h tree = IsCanonical b h tree
+IsOutput b Transpose h tree = IsCanonical b h tree
 IsOutput b Join h tree = IsCanonical b h tree
 IsOutput b Trace h tree = IsNumber tree
 IsOutput b AddNum h tree = IsNumber tree
@@ -89,6 +113,10 @@ abbrev pub rank_at : What → ℕ → ℕ
 rank_at Join h = 4 * h
 rank_at Assign h = 4 * h + 1
 rank_at Add h = 4 * h + 1
+rank_at Mul h = 4 * h + 2
+rank_at TMul h = 4 * h + 2
+rank_at MulT h = 4 * h + 2
+rank_at Transpose h = 4 * h + 1
 rank_at Trace h = 4 * h + 1
 rank_at AddNum h = 0
 

@@ -1,6 +1,6 @@
 -- The laws of quadtrees, as statements. The functions of `laws` carry each as their contract.
-use Rattle.std.specs.Prelude.{◌≡◌, ℕ, suc, Bool, List, ℤ}
-use Rattle.dense_def.specs.Matrix.{Matrix, joined, peak_of}
+use Rattle.std.specs.Prelude.{◌≡◌, ℕ, suc, ◌*◌, ◌^◌, ◌≤◌, Bool, List, [], ◌∷◌, ℤ}
+use Rattle.dense_def.specs.Matrix.{Matrix, IsMatrix, joined, completed, peak_of}
 use Rattle.leaf_blocks.specs.Block.{IsBlock}
 use Rattle.chunk_codec.specs.Spots.{side_of}
 use Rattle.task_types.specs.Tree.{Tree, Nothing, Root, child}
@@ -14,6 +14,7 @@ use Rattle.quad_matrix.specs.Chunks.{arity_of, IsSoundChunk, peak_in}
 use Rattle.quad_matrix.specs.Spots.{AreSoundEntries}
 use Rattle.quad_matrix.specs.Blocks.{block_of, number_of, canonical, number_tree, IsCanonical, IsNumber}
 use Rattle.quad_matrix.specs.Goals.{kind_of, goal_at, goal_of, FitsAt, IsOutput}
+use Rattle.quad_matrix.specs.Products.{Turned, product_what, product_of, inner_size, InnerSizesAgree}
 use Rattle.quad_matrix.specs.Portions.{portions_of, TakeMirrored}
 use Rattle.quad_matrix.specs.Matrices.{matrices}
 
@@ -75,6 +76,25 @@ abbrev pub GoalsHaveNoSide : Type 0
 GoalsHaveNoSide =
     (b : ℕ) (what : What) (h : ℕ) (trees : List (Tree MatChunk)) → FitsAt b what h trees
     → goal_of (kind_of what h) trees ≡ goal_at b what h trees
+
+-- The goal of a product is defined on the trees of two matrices completed by zeros, where the inner size of the matrices themselves
+-- times both peaks is at most 2 ^ 126.
+abbrev pub ProductFitsByPeaks : Type 0
+ProductFitsByPeaks =
+    (b h : ℕ) (turned : Turned) (x y : Tree MatChunk) (m n : Matrix) → IsCanonical b h x → IsCanonical b h y
+    → block_of b h x ≡ completed (side_of b h) m → block_of b h y ≡ completed (side_of b h) n
+    → IsMatrix m → IsMatrix n → InnerSizesAgree turned m n → inner_size turned m ≤ side_of b h
+    → inner_size turned m * peak_of m * peak_of n ≤ 2 ^ 126
+    → FitsAt b (product_what turned) h (x ∷ y ∷ [])
+
+-- where it is defined, the goal of a product is the tree of the product completed by zeros
+abbrev pub ProductStands : Type 0
+ProductStands =
+    (b h : ℕ) (turned : Turned) (x y : Tree MatChunk) (m n : Matrix) → FitsAt b (product_what turned) h (x ∷ y ∷ [])
+    → block_of b h x ≡ completed (side_of b h) m → block_of b h y ≡ completed (side_of b h) n
+    → IsMatrix m → IsMatrix n → InnerSizesAgree turned m n → inner_size turned m ≤ side_of b h
+    → IsCanonical b h (goal_at b (product_what turned) h (x ∷ y ∷ []))
+    × (block_of b h (goal_at b (product_what turned) h (x ∷ y ∷ [])) ≡ completed (side_of b h) (product_of turned m n))
 
 -- goals are defined for at most four inputs
 abbrev pub GoalsHaveFewInputs : Type 0

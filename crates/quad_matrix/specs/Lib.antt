@@ -3,6 +3,7 @@ pub mod Spots
 pub mod Blocks
 pub mod Goals
 pub mod Names
+pub mod Products
 pub mod Plans
 pub mod Works
 pub mod Matrices

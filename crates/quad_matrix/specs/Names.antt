@@ -3,7 +3,7 @@ use Rattle.std.specs.Prelude.{◌≡◌, ℕ, Option, Some, List, [], ◌∷◌,
 use Rattle.std.proofs.Common.{sym, ap, ◌∙◌, lit≤}
 use Rattle.task_types.specs.Names.{IsName}
 use Rattle.quad_matrix.specs.declared.kind.What.{What}
-use Rattle.quad_matrix.specs.declared.kind.What.TheVariants.{Assign, Add, Join, Trace, AddNum}
+use Rattle.quad_matrix.specs.declared.kind.What.TheVariants.{Assign, Add, Mul, TMul, MulT, Transpose, Join, Trace, AddNum}
 use Rattle.quad_matrix.specs.declared.kind.MatKind.{MatKind}
 use Rattle.quad_matrix.specs.Goals.{kind_of}
 
@@ -11,13 +11,17 @@ use Rattle.quad_matrix.specs.Goals.{kind_of}
 abbrev pub what_name : What → List ℕ
 what_name Assign = codes "assign"
 what_name Add = codes "add"
+what_name Mul = codes "mul"
+what_name TMul = codes "tmul"
+what_name MulT = codes "mult"
+what_name Transpose = codes "transpose"
 what_name Join = codes "join"
 what_name Trace = codes "trace"
 what_name AddNum = codes "addnum"
 
 -- all that a task may compute
 abbrev pub all_whats : List What
-all_whats = Assign ∷ Add ∷ Join ∷ Trace ∷ AddNum ∷ []
+all_whats = Assign ∷ Add ∷ Mul ∷ TMul ∷ MulT ∷ Transpose ∷ Join ∷ Trace ∷ AddNum ∷ []
 
 -- what has this name
 abbrev pub what_of : List ℕ → Option What
@@ -27,6 +31,10 @@ what_of name = find (λ what. bytes_eq (what_name what) name) all_whats
 pub names_named : (what : What) → IsName (what_name what)
 names_named Assign = (lit≤ tt, lit≤ tt, refl)
 names_named Add = (lit≤ tt, lit≤ tt, refl)
+names_named Mul = (lit≤ tt, lit≤ tt, refl)
+names_named TMul = (lit≤ tt, lit≤ tt, refl)
+names_named MulT = (lit≤ tt, lit≤ tt, refl)
+names_named Transpose = (lit≤ tt, lit≤ tt, refl)
 names_named Join = (lit≤ tt, lit≤ tt, refl)
 names_named Trace = (lit≤ tt, lit≤ tt, refl)
 names_named AddNum = (lit≤ tt, lit≤ tt, refl)
@@ -35,6 +43,10 @@ names_named AddNum = (lit≤ tt, lit≤ tt, refl)
 pub what_of-name : (what : What) → what_of (what_name what) ≡ Some what
 what_of-name Assign = refl
 what_of-name Add = refl
+what_of-name Mul = refl
+what_of-name TMul = refl
+what_of-name MulT = refl
+what_of-name Transpose = refl
 what_of-name Join = refl
 what_of-name Trace = refl
 what_of-name AddNum = refl

@@ -5,15 +5,21 @@ use Rattle.task_types.specs.declared.outcome.Place.{Place}
 use Rattle.task_types.specs.declared.outcome.Place.TheVariants.{Null, Child, Chunk}
 use Rattle.task_types.specs.Presence.{Presence, all_present}
 use Rattle.task_types.specs.Places.{filled, Shape, shape_from}
-use Rattle.task_plans.specs.declared.plan.Part.TheVariants.{Portion, Either, Pair}
+use Rattle.task_plans.specs.declared.plan.Part.{Part}
+use Rattle.task_plans.specs.declared.plan.Part.TheVariants.{Portion, Alone, Either, Pair}
 use Rattle.task_plans.specs.declared.plan.Ending.TheVariants.{Joined, Single}
 use Rattle.task_plans.specs.Plans.{Plan, term_on, planned_shapes, given_shape, chunk_shape, are_null, input_place, other_place}
 use Rattle.quad_matrix.specs.declared.kind.What.{What}
-use Rattle.quad_matrix.specs.declared.kind.What.TheVariants.{Assign, Add, Join, Trace, AddNum}
+use Rattle.quad_matrix.specs.declared.kind.What.TheVariants.{Assign, Add, Mul, TMul, MulT, Transpose, Join, Trace, AddNum}
 use Rattle.quad_matrix.specs.declared.kind.MatKind.{MatKind}
 use Rattle.quad_matrix.specs.Goals.{kind_at}
+use Rattle.quad_matrix.specs.Products.{Neither, First, Second, product_plan}
 
 -- ---- The table
+
+-- the transpose of one child
+abbrev pub transpose_part : ℕ → Part What
+transpose_part q = Alone (term_on Transpose (Child 0 q ∷ []))
 
 -- the plan of each kind; a join and a sum of numbers ask no tasks
 abbrev pub plan_of : What → Plan What
@@ -23,6 +29,14 @@ plan_of Assign =
       ending = Joined Join;
     }
 plan_of Add = record { parts = Either Add 0 ∷ Either Add 1 ∷ Either Add 2 ∷ Either Add 3 ∷ []; ending = Joined Join }
+plan_of Mul = product_plan Neither
+plan_of TMul = product_plan First
+plan_of MulT = product_plan Second
+plan_of Transpose =
+    record {
+      parts = transpose_part 0 ∷ transpose_part 2 ∷ transpose_part 1 ∷ transpose_part 3 ∷ [];
+      ending = Joined Join;
+    }
 plan_of Trace =
     record {
       parts = Pair (term_on Trace (Child 0 0 ∷ [])) (term_on Trace (Child 0 3 ∷ [])) AddNum ∷ [];
@@ -37,6 +51,10 @@ plan_of AddNum = record { parts = []; ending = Single }
 abbrev pub inputs_of : What → ℕ
 inputs_of Assign = 1
 inputs_of Add = 2
+inputs_of Mul = 2
+inputs_of TMul = 2
+inputs_of MulT = 2
+inputs_of Transpose = 1
 inputs_of Join = 4
 inputs_of Trace = 1
 inputs_of AddNum = 2
@@ -45,6 +63,10 @@ inputs_of AddNum = 2
 abbrev pub may_have : What → ℕ → Bool
 may_have Assign height = nat_le height 16
 may_have Add height = nat_le height 16
+may_have Mul height = nat_le height 16
+may_have TMul height = nat_le height 16
+may_have MulT height = nat_le height 16
+may_have Transpose height = nat_le height 16
 may_have Join height = nat_le 1 height && nat_le height 16
 may_have Trace height = nat_le height 16
 may_have AddNum height = height == 0
@@ -62,6 +84,10 @@ joined_shape known =
 abbrev pub null_shape : What → List Presence → Shape MatKind
 null_shape Assign known = given_shape Null
 null_shape Add known = given_shape (other_place known)
+null_shape Mul known = given_shape Null
+null_shape TMul known = given_shape Null
+null_shape MulT known = given_shape Null
+null_shape Transpose known = given_shape Null
 null_shape Join known = joined_shape known
 null_shape Trace known = given_shape Null
 null_shape AddNum known = given_shape (other_place known)
@@ -79,6 +105,10 @@ shapes_at what (suc h) known = planned_shapes kind_at (suc h) (plan_of what) kno
 abbrev pub full_shapes : What → ℕ → List Presence → List (Shape MatKind)
 full_shapes Assign height known = shapes_at Assign height known
 full_shapes Add height known = shapes_at Add height known
+full_shapes Mul height known = shapes_at Mul height known
+full_shapes TMul height known = shapes_at TMul height known
+full_shapes MulT height known = shapes_at MulT height known
+full_shapes Transpose height known = shapes_at Transpose height known
 full_shapes Join height known = joined_shape known ∷ []
 full_shapes Trace height known = shapes_at Trace height known
 full_shapes AddNum height known = low_shapes

@@ -1,13 +1,15 @@
 -- The works of the kinds: how many tasks are finished for one, itself and all that come of it.
 use Rattle.std.specs.Prelude.{ℕ, zero, suc, ◌+◌, Bool, true, false, ◌&&◌, ◌||◌, ◌==◌, not, if◌then◌else◌, List, [], ◌∷◌, ◌++◌, sum}
 use Rattle.dense_def.specs.Matrix.{Matrix, peak_of}
-use Rattle.task_types.specs.Tree.{Tree, Nothing, Root, is_there}
+use Rattle.task_types.specs.Tree.{Tree, Nothing, Root, child, is_there}
 use Rattle.quad_matrix.specs.declared.chunk.MatChunk.{MatChunk}
 use Rattle.quad_matrix.specs.declared.kind.What.{What}
-use Rattle.quad_matrix.specs.declared.kind.What.TheVariants.{Assign, Add, Join, Trace, AddNum}
+use Rattle.quad_matrix.specs.declared.kind.What.TheVariants.{Assign, Add, Mul, TMul, MulT, Transpose, Join, Trace, AddNum}
 use Rattle.quad_matrix.specs.declared.kind.MatKind.{MatKind}
 use Rattle.chunk_codec.specs.Spots.{side_of}
 use Rattle.quad_matrix.specs.Blocks.{block_of, leaf_of, upper_left, upper_right, lower_left, lower_right}
+use Rattle.quad_matrix.specs.Goals.{kind_of, goal_of}
+use Rattle.quad_matrix.specs.Products.{Turned, Neither, First, Second, product_what, first_child, second_child}
 
 -- an item where it is asked for
 abbrev pub asked : {X : Type 0} → Bool → X → List X
@@ -33,19 +35,62 @@ add_work (suc h) (Root c x0 x1 x2 x3) (Root d y0 y1 y2 y3) =
     ++ asked (are_both x2 y2) (add_work h x2 y2) ++ asked (are_both x3 y3) (add_work h x3 y3)
     ++ asked (is_either x0 y0 || is_either x1 y1 || is_either x2 y2 || is_either x3 y3) 1)
 
--- the works of the traces of two children, and of the sum of both
-abbrev pub pair_works : Bool → Bool → ℕ → ℕ → List ℕ
-pair_works false false a b = []
-pair_works true false a b = a ∷ []
-pair_works false true a b = b ∷ []
-pair_works true true a b = a ∷ b ∷ 1 ∷ []
+-- the works of two tasks of which each may be missing, and of what adds both
+abbrev pub pair_works : Bool → Bool → ℕ → ℕ → ℕ → List ℕ
+pair_works false false a b both = []
+pair_works true false a b both = a ∷ []
+pair_works false true a b both = b ∷ []
+pair_works true true a b both = a ∷ b ∷ both ∷ []
 
 -- the work of a trace
 abbrev pub trace_work : ℕ → Tree MatChunk → ℕ
 trace_work zero x = 1
 trace_work (suc h) Nothing = 1
 trace_work (suc h) (Root c x0 x1 x2 x3) =
-    1 + sum (pair_works (is_there x0) (is_there x3) (trace_work h x0) (trace_work h x3))
+    1 + sum (pair_works (is_there x0) (is_there x3) (trace_work h x0) (trace_work h x3) 1)
+
+-- the work of a transpose: those of the transposes of the children, and 1 for their join
+abbrev pub transpose_work : ℕ → Tree MatChunk → ℕ
+transpose_work zero x = 1
+transpose_work (suc h) x =
+    1
+    + sum
+    (asked (is_there (child x 0)) (transpose_work h (child x 0)) ++ asked (is_there (child x 2)) (transpose_work h (child x 2))
+    ++ asked (is_there (child x 1)) (transpose_work h (child x 1)) ++ asked (is_there (child x 3)) (transpose_work h (child x 3))
+    ++ asked (is_there (child x 0) || is_there (child x 2) || is_there (child x 1) || is_there (child x 3)) 1)
+
+-- the inputs of a term of a product
+abbrev pub factors : Turned → Tree MatChunk → Tree MatChunk → Bool → Bool → Bool → List (Tree MatChunk)
+factors turned x y lower right far =
+    child x (first_child turned lower far) ∷ child y (second_child turned right far) ∷ []
+
+-- whether a term of a product is there
+abbrev pub is_term : Turned → Tree MatChunk → Tree MatChunk → Bool → Bool → Bool → Bool
+is_term turned x y lower right far =
+    are_both (child x (first_child turned lower far)) (child y (second_child turned right far))
+
+-- whether a quadrant of a product has a term
+abbrev pub has_term : Turned → Tree MatChunk → Tree MatChunk → Bool → Bool → Bool
+has_term turned x y lower right = is_term turned x y lower right false || is_term turned x y lower right true
+
+-- the product that a term gives, on blocks of a height
+abbrev pub term_goal : Turned → ℕ → Tree MatChunk → Tree MatChunk → Bool → Bool → Bool → Tree MatChunk
+term_goal turned h x y lower right far = goal_of (kind_of (product_what turned) h) (factors turned x y lower right far)
+
+-- the work of a product: those of the terms of its quadrants and of the sums of two terms, and 1 for the join of the quadrants
+abbrev pub product_work : Turned → ℕ → Tree MatChunk → Tree MatChunk → ℕ
+product_work turned zero x y = 1
+product_work turned (suc h) x y =
+    let term : Bool → Bool → Bool → ℕ =
+    λ lower right far. product_work turned h (child x (first_child turned lower far)) (child y (second_child turned right far)) in
+    let quadrant : Bool → Bool → List ℕ =
+    λ lower right.
+    pair_works (is_term turned x y lower right false) (is_term turned x y lower right true) (term lower right false) (term lower right true)
+    (add_work h (term_goal turned h x y lower right false) (term_goal turned h x y lower right true)) in
+    1
+    + sum
+    (quadrant false false ++ quadrant false true ++ quadrant true false ++ quadrant true true
+    ++ asked (has_term turned x y false false || has_term turned x y false true || has_term turned x y true false || has_term turned x y true true) 1)
 
 -- whether a block has a number other than 0
 abbrev pub has_number : Matrix → Bool
@@ -68,9 +113,17 @@ assign_work b (suc h) m =
 abbrev pub work_at : What → ℕ → List (Tree MatChunk) → ℕ
 work_at Assign h (x ∷ []) = assign_work (leaf_of x) h (block_of (leaf_of x) h x)
 work_at Add h (x ∷ y ∷ []) = add_work h x y
+work_at Mul h (x ∷ y ∷ []) = product_work Neither h x y
+work_at TMul h (x ∷ y ∷ []) = product_work First h x y
+work_at MulT h (x ∷ y ∷ []) = product_work Second h x y
+work_at Transpose h (x ∷ []) = transpose_work h x
 work_at Trace h (x ∷ []) = trace_work h x
 work_at Assign h trees = 1
 work_at Add h trees = 1
+work_at Mul h trees = 1
+work_at TMul h trees = 1
+work_at MulT h trees = 1
+work_at Transpose h trees = 1
 work_at Join h trees = 1
 work_at Trace h trees = 1
 work_at AddNum h trees = 1

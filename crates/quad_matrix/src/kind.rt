@@ -13,6 +13,14 @@ pub enum What {
     Assign,
     /// The sum of two blocks.
     Add,
+    /// The product of two blocks, row by column.
+    Mul,
+    /// The product of the transpose of the first block with the second.
+    TMul,
+    /// The product of the first block with the transpose of the second.
+    MulT,
+    /// The block whose rows are the columns of another.
+    Transpose,
     /// The block with four quadrants.
     Join,
     /// The sum of the numbers on the diagonal of a block.
@@ -22,9 +30,13 @@ pub enum What {
 }
 
 // All of them.
-const ALL: [What; 5] = [
+const ALL: [What; 9] = [
     What::Assign,
     What::Add,
+    What::Mul,
+    What::TMul,
+    What::MulT,
+    What::Transpose,
     What::Join,
     What::Trace,
     What::AddNum,
@@ -39,6 +51,10 @@ impl What {
         match self {
             What::Assign => b"assign",
             What::Add => b"add",
+            What::Mul => b"mul",
+            What::TMul => b"tmul",
+            What::MulT => b"mult",
+            What::Transpose => b"transpose",
             What::Join => b"join",
             What::Trace => b"trace",
             What::AddNum => b"addnum",
@@ -60,7 +76,8 @@ impl Operation for What {
 
     fn kind_at(self, height: u32) -> MatKind {
         let height = match self {
-            What::Assign | What::Add | What::Join | What::Trace => height,
+            What::Assign | What::Add | What::Mul | What::TMul | What::MulT => height,
+            What::Transpose | What::Join | What::Trace => height,
             What::AddNum => 0,
         };
         MatKind { what: self, height }

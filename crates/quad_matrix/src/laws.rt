@@ -1,7 +1,7 @@
 //! The laws of quadtrees. Each function does nothing: its contract is the law, which `specs/Laws.antt` states, and a proof above cites
 //! the lemma of `proofs/ForOthers.antt` behind it.
 
-ghost use Rattle.quad_matrix.specs.Laws.{CanonicalStands, CanonicalIsSo, CanonicalIsOnly, NothingIsCanonical, ChildrenAreCanonical, ChildrenAreQuadrants, RootHasPeak, NumberStands, NumberIsOnly, GoalsAreCanonical, GoalsHaveNoSide, GoalsHaveFewInputs, WorksAddUp, PortionsAreSound};
+ghost use Rattle.quad_matrix.specs.Laws.{CanonicalStands, CanonicalIsSo, CanonicalIsOnly, NothingIsCanonical, ChildrenAreCanonical, ChildrenAreQuadrants, RootHasPeak, NumberStands, NumberIsOnly, GoalsAreCanonical, GoalsHaveNoSide, GoalsHaveFewInputs, ProductFitsByPeaks, ProductStands, WorksAddUp, PortionsAreSound};
 
 /// The canonical tree of a block stands for it and is the only one.
 pub fn canonical_trees()
@@ -29,6 +29,13 @@ pub fn goals()
     ensures canonical { GoalsAreCanonical }
     ensures no_side { GoalsHaveNoSide }
     ensures few_inputs { GoalsHaveFewInputs }
+{}
+
+/// Products of matrices that are completed by zeros: the peaks and the inner size of the matrices tell that the goal is defined, and
+/// it is the tree of their product.
+pub fn product_goals()
+    ensures fits { ProductFitsByPeaks }
+    ensures stands { ProductStands }
 {}
 
 /// Works add up.

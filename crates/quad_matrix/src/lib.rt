@@ -12,4 +12,6 @@ pub use chunk::{Entries, MatChunk};
 pub use chunk_codec::Spot;
 pub use entries::{leaf_block, portions};
 pub use kind::{MatKind, What};
-pub use laws::{canonical_children, canonical_trees, goals, number_trees, sound_portions, works};
+pub use laws::{
+    canonical_children, canonical_trees, goals, number_trees, product_goals, sound_portions, works,
+};

@@ -5,6 +5,33 @@ use crate::kind::What;
 use task_plans::{Ending, Part, Term};
 use task_types::{Place, Places};
 
+// The product of a child of the first input with a child of the second.
+macro_rules! factors {
+    ($what:expr, $first:expr, $second:expr) => {
+        Term {
+            what: $what,
+            inputs: Places {
+                count: 2,
+                first: Place::Child(0, $first),
+                second: Place::Child(1, $second),
+                third: Place::Null,
+                fourth: Place::Null,
+            },
+        }
+    };
+}
+
+// A quadrant of a product: the sum of the products of two pairs of children.
+macro_rules! quadrant {
+    ($what:expr, $first:expr, $second:expr; $third:expr, $fourth:expr) => {
+        Part::Pair {
+            first: factors!($what, $first, $second),
+            second: factors!($what, $third, $fourth),
+            sum: What::Add,
+        }
+    };
+}
+
 // A task on one child of the inputs.
 macro_rules! term {
     ($what:expr, $first:expr) => {
@@ -58,6 +85,38 @@ const ADD: [Part<What>; 4] = [
     either!(What::Add, 3),
 ];
 
+// The products of both blocks as they are.
+const MUL: [Part<What>; 4] = [
+    quadrant!(What::Mul, 0, 0; 1, 2),
+    quadrant!(What::Mul, 0, 1; 1, 3),
+    quadrant!(What::Mul, 2, 0; 3, 2),
+    quadrant!(What::Mul, 2, 1; 3, 3),
+];
+
+// Those with the first block transposed.
+const TMUL: [Part<What>; 4] = [
+    quadrant!(What::TMul, 0, 0; 2, 2),
+    quadrant!(What::TMul, 0, 1; 2, 3),
+    quadrant!(What::TMul, 1, 0; 3, 2),
+    quadrant!(What::TMul, 1, 1; 3, 3),
+];
+
+// Those with the second block transposed.
+const MULT: [Part<What>; 4] = [
+    quadrant!(What::MulT, 0, 0; 1, 1),
+    quadrant!(What::MulT, 0, 2; 1, 3),
+    quadrant!(What::MulT, 2, 0; 3, 1),
+    quadrant!(What::MulT, 2, 2; 3, 3),
+];
+
+// The transposes of the children, the two beside the diagonal exchanged.
+const TRANSPOSE: [Part<What>; 4] = [
+    Part::Alone(term!(What::Transpose, Place::Child(0, 0))),
+    Part::Alone(term!(What::Transpose, Place::Child(0, 2))),
+    Part::Alone(term!(What::Transpose, Place::Child(0, 1))),
+    Part::Alone(term!(What::Transpose, Place::Child(0, 3))),
+];
+
 // The traces of the quadrants on the diagonal.
 const TRACE: [Part<What>; 1] = [Part::Pair {
     first: term!(What::Trace, Place::Child(0, 0)),
@@ -73,6 +132,10 @@ impl What {
         match self {
             What::Assign => &ASSIGN,
             What::Add => &ADD,
+            What::Mul => &MUL,
+            What::TMul => &TMUL,
+            What::MulT => &MULT,
+            What::Transpose => &TRANSPOSE,
             What::Trace => &TRACE,
             What::Join | What::AddNum => &[],
         }
@@ -83,7 +146,9 @@ impl What {
         ensures { result ≡ (plan_of self).ending }
     {
         match self {
-            What::Assign | What::Add => Ending::Joined(What::Join),
+            What::Assign | What::Add | What::Mul | What::TMul | What::MulT | What::Transpose => {
+                Ending::Joined(What::Join)
+            }
             What::Trace | What::Join | What::AddNum => Ending::Single,
         }
     }
