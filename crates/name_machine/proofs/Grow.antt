@@ -32,6 +32,7 @@ use Rattle.cht_history.specs.declared.event.Event.TheVariants.{Register, Copy}
 use Rattle.name_machine.specs.States.{Holding, Ask, MayMention, MayMentionAll, is_of, mine, held_by, tree_of_holding}
 use Rattle.name_machine.specs.States as machine
 use Rattle.name_machine.specs.Machine.{Copies, Registers}
+use Rattle.name_machine.specs.Steps as steps
 use Rattle.name_machine.specs.Replay.{Plans, is_id, is_caller, is_callers, is_mine, may_mention, is_allowed}
 use Rattle.name_machine.specs.Forgetting.{forgotten}
 use Rattle.name_machine.specs.Goals.{goal_from, goal_within}
@@ -345,10 +346,11 @@ module _ {C K : Type 0} (lib : Meanings C K) (arity : C → ℕ) (control : Cont
         ];
       }
 
-  pub register_stands : (plans : Plans K) (caller : ℕ) (id : Id) (children : List Ref) (content : C) → length children ≡ arity content → HoldsTogether lib (machine_of lib control)
+  -- a register, with the content that it is of
+  registers : (plans : Plans K) (caller : ℕ) (id : Id) (children : List Ref) (content : C) → length children ≡ arity content → HoldsTogether lib (machine_of lib control)
       → is_allowed plans (forgotten arity control) (Register caller id children) ≡ true
-      → Registers lib arity (machine_of lib control) (machine_of lib (tidied (register_event control caller content children))) caller id children
-  register_stands plans caller id children content many facts allowed =
+      → (it : Registers lib arity (machine_of lib control) (machine_of lib (tidied (register_event control caller content children))) caller id children) × (it.content ≡ content)
+  registers plans caller id children content many facts allowed =
       let n : ℕ = control.drawn + 2 in
       let drawn : ℕ = control.drawn + 2 + present children in
       let front = nat_le (length children) 4 && list_all (may_mention (forgotten arity control) caller) children in
@@ -371,7 +373,7 @@ module _ {C K : Type 0} (lib : Meanings C K) (arity : C → ℕ) (control : Cont
       let shown : held_shown control.asks more n entry ≡ Some h =
       ap (λ b. cond b None (holding_shown more entry (Caller caller))) (no_output n (Caller caller) (omega arith))
       ∙ (λ i. Some (record { caller = caller; owner = sym owner i; tree = tree_is i })) in
-      record {
+      (record {
         content = content;
         mentioned = mentioned.0.0;
         all_children = many;
@@ -386,4 +388,17 @@ module _ {C K : Type 0} (lib : Meanings C K) (arity : C → ℕ) (control : Cont
                 | inr copy ↦ inr (inr (ap (held_shown control.asks more q) copy.4))
               ]
             ]);
-      }
+      }, refl)
+
+  pub register_stands : (plans : Plans K) (caller : ℕ) (id : Id) (children : List Ref) (content : C) → length children ≡ arity content → HoldsTogether lib (machine_of lib control)
+      → is_allowed plans (forgotten arity control) (Register caller id children) ≡ true
+      → Registers lib arity (machine_of lib control) (machine_of lib (tidied (register_event control caller content children))) caller id children
+  register_stands plans caller id children content many facts allowed = (registers plans caller id children content many facts allowed).0
+
+  -- what a register makes of the state, with its content
+  pub register_is : (plans : Plans K) (caller : ℕ) (id : Id) (children : List Ref) (content : C) → length children ≡ arity content → HoldsTogether lib (machine_of lib control)
+      → is_allowed plans (forgotten arity control) (Register caller id children) ≡ true
+      → machine_of lib (tidied (register_event control caller content children)) ≡ steps.registered (machine_of lib control) caller id.owner content children
+  register_is plans caller id children content many facts allowed =
+      let it = registers plans caller id children content many facts allowed in
+      subst (λ c. machine_of lib (tidied (register_event control caller content children)) ≡ steps.registered (machine_of lib control) caller id.owner c children) it.1 it.0.after_is

@@ -187,7 +187,8 @@ module _ {C K : Type 0} (names : NameState C) (graph : Graph Ref K) where
   shown_in None = refl
   shown_in (Some t) = ap (λ b. cond b Waiting (cond (is_some t.runner) Running Ready)) (awaiting_shown names t.inputs)
 
-  status_shown : (q : ℕ) → status (graph_shown names graph) q ≡ status graph q
+  -- how far a task is hangs on no tree
+  pub status_shown : (q : ℕ) → status (graph_shown names graph) q ≡ status graph q
   status_shown q = status_is (graph_shown names graph) q ∙ ap status_in (shown_at names graph q) ∙ shown_in (task_at graph q) ∙ sym (status_is graph q)
 
 ready_only : (s : TaskStatus) → is_ready s ≡ true → s ≡ Ready
