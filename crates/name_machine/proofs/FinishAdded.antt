@@ -19,12 +19,13 @@ use Rattle.task_states.proofs.Maps.{same_maps}
 use Rattle.name_machine.specs.Control.{Control, input_copies, task_copies}
 use Rattle.name_machine.specs.NewTasks.{taken, drawn_by_tasks, new_inputs, with_tasks}
 use Rattle.name_machine.specs.Standing.{IsRefOf, input_shown, task_shown, graph_shown}
+use Rattle.name_machine.proofs.Ordered.{input_from}
 use Rattle.name_machine.proofs.Ends.{inputs_at}
 use Rattle.name_machine.proofs.Stand.{shown_at}
 use Rattle.name_machine.proofs.Orderly.{ref_is_live}
 use Rattle.name_machine.proofs.FinishNames.{more_by, sound_by, reached_by, within_by}
 use Rattle.name_machine.proofs.FinishMiddle.{Middle, ref_more}
-use Rattle.name_machine.proofs.FinishTasks.{free_by, input_task, added_here, added_other, added_from, read, value_ref, value_tree, IsGood, AreGood, good_kept, IsNewInput, Walk, walk, holder_is}
+use Rattle.name_machine.proofs.FinishTasks.{free_by, added_here, added_other, added_from, read, value_ref, value_tree, IsGood, AreGood, good_kept, IsNewInput, Walk, walk, holder_is}
 
 -- ---- Shown graphs
 
@@ -114,7 +115,7 @@ module _ {C K : Type 0} (arity : C → ℕ) (gone : ℕ) (base : NameState C) (i
 
     old_input : (q p : ℕ) (x : Input Ref) → input_at control.graph q p ≡ Some x → input_at with_one.graph q p ≡ Some x
     old_input q p x is =
-        let t = input_task control.graph q p x is in
+        let t = input_from control.graph q p x is in
         let low = middle.numbered q t.0 t.1 in
         added_other control.graph n caller task.kind ins q p (λ same. omega arith) ∙ is
 

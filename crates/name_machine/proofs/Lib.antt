@@ -34,6 +34,7 @@ pub mod AskStands
 pub mod AskOrdered
 pub mod Leaving
 pub mod FinishNames
+pub mod FinishNamesOrder
 pub mod FinishNamesRead
 pub mod FinishMiddle
 pub mod FinishChunks
