@@ -40,6 +40,7 @@ use Rattle.name_machine.proofs.Ordered.{input_from, inputs_unchanged, order_same
 use Rattle.name_machine.proofs.Fewer.{left_at, stays_at, sound_without_ids, swept_sound, swept_reached, swept_fewer, outside_stays}
 use Rattle.name_machine.proofs.Leaving.{task_was, task_stays, left, ask_was, uncollected_is, uncollected_caller}
 use Rattle.name_machine.proofs.AskOrdered.{numbered_above, ask_order}
+use Rattle.name_machine.proofs.FinishStands.{finish_keeps_order}
 
 pub opening_is_orderly : {C : Type 0} (K : Type 0) (arity : C → ℕ) → OpeningIsOrderly K arity
 opening_is_orderly K arity =
@@ -267,4 +268,5 @@ module _ {C K : Type 0} (lib : Meanings C K) (arity : C → ℕ) (plans : Plans 
       same_order lib arity control orderly (started control.graph task worker) (inputs_unchanged control.graph task (λ t. record t { runner = Some worker }) (λ t. refl))
   keeps_order control contents (GiveBack worker task) orderly facts these allowed =
       same_order lib arity control orderly (given_back control.graph task) (inputs_unchanged control.graph task (λ t. record t { runner = None }) (λ t. refl))
-  keeps_order control contents (Finish worker task chunks tasks result) orderly facts these allowed = ?
+  keeps_order control contents (Finish worker task chunks tasks result) orderly facts these allowed =
+      finish_keeps_order lib arity plans control contents worker task chunks tasks result orderly facts these allowed

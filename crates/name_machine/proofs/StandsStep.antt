@@ -16,6 +16,7 @@ use Rattle.name_machine.proofs.Grow.{register_stands, copy_stands}
 use Rattle.name_machine.proofs.AskStands.{ask_stands}
 use Rattle.name_machine.proofs.FewerStand.{delete_stands, abandon_stands}
 use Rattle.name_machine.proofs.CollectStands.{collect_stands}
+use Rattle.name_machine.proofs.FinishStands.{finish_stands}
 
 module _ {C K : Type 0} (lib : Meanings C K) (arity : C → ℕ) (plans : Plans K) where
   register_some : (control : Control C (Unit {0}) K) (contents : List C) (caller : ℕ) (id : Id) (children : List Ref) → IsOrderly arity control → HoldsTogether lib (machine_of lib control)
@@ -36,4 +37,5 @@ module _ {C K : Type 0} (lib : Meanings C K) (arity : C → ℕ) (plans : Plans 
   stands_step control contents (Stop caller) orderly facts these allowed = stands_still lib arity plans control contents (Stop caller) orderly.sound orderly.reached tt allowed
   stands_step control contents (Start worker task) orderly facts these allowed = stands_still lib arity plans control contents (Start worker task) orderly.sound orderly.reached tt allowed
   stands_step control contents (GiveBack worker task) orderly facts these allowed = stands_still lib arity plans control contents (GiveBack worker task) orderly.sound orderly.reached tt allowed
-  stands_step control contents (Finish worker task chunks tasks result) orderly facts these allowed = ?
+  stands_step control contents (Finish worker task chunks tasks result) orderly facts these allowed =
+      finish_stands lib arity plans control contents worker task chunks tasks result orderly facts these allowed
