@@ -1,19 +1,16 @@
 -- New tasks keep the order, and show as the machine's new tasks.
-use Rattle.std.proofs.Common.{◌≡◌, ℕ, zero, suc, ◌+◌, ◌<◌, ◌≤◌, ◌⊎◌, inl, inr, List, [], ◌∷◌, map as each, slice_get, Option, None, Some, refl, sym, ap, subst, ◌∙◌, arith}
+use Rattle.std.proofs.Common.{◌≡◌, ℕ, suc, ◌+◌, ◌<◌, ◌≤◌, ◌⊎◌, inl, inr, List, [], ◌∷◌, map as each, slice_get, Option, None, Some, refl, sym, ap, subst, ◌∙◌, arith}
 use Rattle.std.specs.Option.{option_map}
-use Rattle.std.specs.FinMap as map
-use Rattle.cht_ids.specs.declared.refs.Id.{Id}
 use Rattle.cht_ids.specs.declared.refs.Ref.{Ref}
-use Rattle.cht_ids.specs.declared.refs.Ref.TheVariants.{Null as NullRef, Id as Held}
+use Rattle.cht_ids.specs.declared.refs.Ref.TheVariants.{Id as Held}
 use Rattle.task_types.specs.declared.outcome.Place.{Place}
 use Rattle.task_types.specs.declared.outcome.NewTask.{NewTask}
 use Rattle.task_types.specs.Tree.{Tree}
 use Rattle.task_types.specs.Places.{places_of}
 use Rattle.name_states.specs.declared.holder.Holder.TheVariants.{Caller as ByCaller, Task as ByTask}
 use Rattle.name_states.specs.States.{NameState, IdRecord, id_at}
-use Rattle.name_states.specs.Rules.{IsSound}
 use Rattle.name_states.specs.Trees.{tree_of}
-use Rattle.name_states.proofs.Basics.{none_not_some, same_some, same_or_not, inserted_here, inserted_other, inserted_from}
+use Rattle.name_states.proofs.Basics.{same_or_not, inserted_here, inserted_other, inserted_from}
 use Rattle.name_states.proofs.Within.{AreMore, within-more}
 use Rattle.name_states.proofs.Trees.{tree-kept}
 use Rattle.task_states.specs.States.{Input, Known, Awaits, Unfinished, Graph, task_at, input_at}
@@ -21,7 +18,7 @@ use Rattle.task_states.specs.Steps.{added}
 use Rattle.task_states.proofs.Maps.{same_maps}
 use Rattle.name_machine.specs.Control.{Control, input_copies, task_copies}
 use Rattle.name_machine.specs.NewTasks.{taken, drawn_by_tasks, new_inputs, with_tasks}
-use Rattle.name_machine.specs.Standing.{IsRefOf, AwaitsUnder, input_shown, task_shown, graph_shown}
+use Rattle.name_machine.specs.Standing.{IsRefOf, input_shown, task_shown, graph_shown}
 use Rattle.name_machine.proofs.Ends.{inputs_at}
 use Rattle.name_machine.proofs.Stand.{shown_at}
 use Rattle.name_machine.proofs.Orderly.{ref_is_live}

@@ -1,9 +1,6 @@
 -- A task that is gone leaves what it holds: fewer names, and a state in order.
-use Rattle.std.proofs.Common.{◌≡◌, ℕ, inl, inr, false, true, Option, None, Some, is_some, refl, sym, ap, subst, ◌∙◌}
-use Rattle.std.specs.FinMap as map
-use Rattle.cht_ids.specs.declared.refs.Id.{Id}
+use Rattle.std.proofs.Common.{◌≡◌, ℕ, inl, inr, false, true, None, Some, is_some, refl, sym, ap, subst, ◌∙◌}
 use Rattle.cht_ids.specs.declared.refs.Ref.{Ref}
-use Rattle.cht_ids.specs.declared.refs.Ref.TheVariants.{Null as NullRef, Id as Held}
 use Rattle.name_states.specs.declared.holder.Holder.{Holder}
 use Rattle.name_states.specs.declared.holder.Holder.TheVariants.{Caller as ByCaller, Task as ByTask, Body as ByBody}
 use Rattle.name_states.specs.States.{NameState, IdRecord, id_at, body_at}

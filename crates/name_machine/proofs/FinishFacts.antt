@@ -1,5 +1,5 @@
 -- From the facts of a state to what is kept, and how asks show where the facts hold.
-use Rattle.std.proofs.Common.{◌≡◌, ℕ, zero, suc, ◌<◌, inl, inr, Bool, true, false, cond, nat_cmp, List, [], ◌∷◌, map as each, slice_get, Option, None, Some, refl, sym, ap, subst, ◌∙◌, arith}
+use Rattle.std.proofs.Common.{◌≡◌, ℕ, zero, suc, ◌<◌, inl, inr, Bool, true, false, cond, nat_cmp, map as each, Option, None, Some, refl, sym, ap, ◌∙◌, arith}
 use Rattle.std.specs.Option.{option_map}
 use Rattle.std.specs.FinMap as map
 use Rattle.cht_ids.specs.declared.refs.Ref.{Ref}
@@ -11,12 +11,12 @@ use Rattle.name_states.specs.States.{NameState, IdRecord, id_at}
 use Rattle.name_states.specs.Trees.{body_tree, tree_of}
 use Rattle.name_states.proofs.Basics.{none_not_some, same_some, same_options, same_from_test}
 use Rattle.task_states.specs.Maps.{chosen}
-use Rattle.task_states.specs.States.{Awaits, Unfinished, Graph, task_at}
+use Rattle.task_states.specs.States.{Unfinished, Graph, task_at}
 use Rattle.task_states.proofs.Maps.{same_maps}
 use Rattle.name_machine.specs.States.{Machine, Holding, Ask, is_of}
 use Rattle.name_machine.specs.Goals.{read_input, goal_from, goal_within}
 use Rattle.name_machine.specs.Facts.{HasLevels, HoldsTogether}
-use Rattle.name_machine.specs.Standing.{is_output, held_shown, holding_shown, asked_among, goal_shown, ask_shown}
+use Rattle.name_machine.specs.Standing.{is_output, held_shown, holding_shown, goal_shown, ask_shown}
 use Rattle.name_machine.proofs.Values.{any_to}
 use Rattle.name_machine.proofs.Ends.{inputs_at}
 use Rattle.name_machine.proofs.Invariant.{Keeps, same_readings}

@@ -1,5 +1,5 @@
 -- All that awaited a finished task gets copies of what its result names, or awaits another task.
-use Rattle.std.proofs.Common.{◌≡◌, ℕ, zero, suc, ◌≤◌, ◌⊎◌, inl, inr, Bool, true, false, cond, nat_eq, List, [], ◌∷◌, map as each, slice_get, Option, None, Some, refl, sym, ap, subst, ◌∙◌, arith, nat_cmp}
+use Rattle.std.proofs.Common.{◌≡◌, ℕ, zero, suc, ◌≤◌, ◌⊎◌, inl, inr, true, cond, nat_eq, List, [], ◌∷◌, map as each, slice_get, Option, None, Some, refl, sym, ap, subst, ◌∙◌, arith, nat_cmp}
 use Rattle.std.specs.Option.{option_map}
 use Rattle.std.specs.FinMap as map
 use Rattle.cht_ids.specs.declared.refs.Id.{Id}
@@ -9,24 +9,22 @@ use Rattle.name_states.specs.declared.holder.Holder.{Holder}
 use Rattle.name_states.specs.declared.holder.Holder.TheVariants.{Caller as ByCaller, Task as ByTask}
 use Rattle.name_states.specs.States.{NameState, IdRecord, id_at, IsLiveRef}
 use Rattle.name_states.specs.Steps.{IsOutside}
-use Rattle.name_states.specs.Trees.{tree_of}
-use Rattle.name_states.proofs.Basics.{none_not_some, none_or_some, same_some, same_or_not, same_from_test, test_same, test_apart, removed_here, removed_other, removed_from}
+use Rattle.name_states.proofs.Basics.{none_not_some, same_some, same_or_not, test_same, test_apart, removed_here, removed_other, removed_from}
 use Rattle.name_states.proofs.Within.{AreMore}
 use Rattle.task_states.specs.Maps.{each_changed}
 use Rattle.task_states.specs.States.{Input, Known, Awaits, Unfinished, Graph, task_at, input_at, asked_of}
-use Rattle.task_states.specs.Steps.{settled, redirected, without_asked, all_delivered, forwarded, removed}
+use Rattle.task_states.specs.Steps.{settled, redirected, all_delivered, forwarded, removed}
 use Rattle.task_states.proofs.Maps.{get-each_changed}
 use Rattle.name_machine.specs.States.{Ask}
 use Rattle.name_machine.specs.Control.{Control, with_number, copies_of, awaiting, answered_with}
-use Rattle.name_machine.specs.Standing.{HasNumber, HasNoOutput, IsRefOf, AwaitsUnder}
+use Rattle.name_machine.specs.Standing.{HasNumber, HasNoOutput, IsRefOf}
 use Rattle.name_machine.proofs.Tasks.{changed_other, mapped_from}
-use Rattle.name_machine.proofs.Ends.{inputs_at}
 use Rattle.name_machine.proofs.Invariant.{IsAskFor}
-use Rattle.name_machine.proofs.Stands.{ByTask as StandsTask, become, stood_gone, stood_at}
+use Rattle.name_machine.proofs.Stands.{ByTask as StandsTask, become, stood_at}
 use Rattle.name_machine.proofs.Orderly.{held_entry}
 use Rattle.name_machine.proofs.FinishNames.{IsIn, GrowBy, more_by, sound_by, reached_by, within_by, IsCopyIn, IsCopyThere, grow_copies, copies_there}
 use Rattle.name_machine.proofs.FinishMiddle.{Middle, ref_more}
-use Rattle.name_machine.proofs.FinishTasks.{free_by, input_task, known_is, holder_is, number_of}
+use Rattle.name_machine.proofs.FinishTasks.{free_by, input_task, known_is, holder_is}
 use Rattle.name_machine.proofs.FinishAwaiting.{IsAwaiter, ByInput, ByAsk, awaiter_of, awaiter_in}
 
 -- ---- Inputs where one task ends
@@ -288,8 +286,7 @@ module _ {C K : Type 0} (arity : C → ℕ) (gone : ℕ) (control : Control C (U
     output_after : (key : ℕ) (a b : Ask (Unit {0}) Ref) (x : Ref) → map.get control.asks key ≡ Some a → IsAnswered ran.asked r a b → b.delivered ≡ Some x → IsRefOf copied (ByCaller b.caller) x × HasNumber b.number x
     output_after key a b x at (Answered asked is) done =
         let one : with_number r a.number ≡ x = same_some (with_number r a.number) x (ap (λ (c : Ask (Unit {0}) Ref). c.delivered) (sym is) ∙ done) in
-        let caller : b.caller ≡ ran.caller = ap (λ (c : Ask (Unit {0}) Ref). c.caller) is ∙ answered_caller key a at asked in
-        (
+        let caller : b.caller ≡ ran.caller = ap (λ (c : Ask (Unit {0}) Ref). c.caller) is ∙ answered_caller key a at asked in (
           subst (λ c. IsRefOf copied (ByCaller c) x) (sym caller) (subst (IsRefOf copied (ByCaller ran.caller)) one (asked_copy a.number asked).0),
           subst (HasNumber b.number) one (has_number r a.number b.number (ap (λ (c : Ask (Unit {0}) Ref). c.number) is)),
         )

@@ -1,5 +1,5 @@
 -- Once a task is finished the control state stands for what the machine's step leaves.
-use Rattle.std.proofs.Common.{◌≡◌, ℕ, zero, suc, inl, inr, Bool, true, false, cond, nat_eq, nat_cmp, ◌&&◌, List, [], ◌∷◌, map as each, slice_get, Option, None, Some, is_some, refl, sym, ap, subst, ◌∙◌}
+use Rattle.std.proofs.Common.{◌≡◌, ℕ, suc, inl, inr, Bool, true, false, cond, nat_eq, nat_cmp, ◌&&◌, List, [], ◌∷◌, map as each, slice_get, Option, None, Some, is_some, refl, sym, ap, subst, ◌∙◌}
 use Rattle.std.specs.Option.{option_map}
 use Rattle.std.specs.List.{list_any}
 use Rattle.std.specs.FinMap as map
@@ -10,8 +10,8 @@ use Rattle.task_types.proofs.FormedTest.{both_left, both_right}
 use Rattle.name_states.specs.declared.holder.Holder.TheVariants.{Caller as ByCaller, Task as ByTask}
 use Rattle.name_states.specs.States.{NameState, IdRecord, id_at, IsLiveRef}
 use Rattle.name_states.specs.Steps.{IsOutside}
-use Rattle.name_states.specs.Trees.{body_tree, tree_of}
-use Rattle.name_states.proofs.Basics.{none_not_some, same_some, same_or_not, same_from_test, test_same, test_apart, removed_here}
+use Rattle.name_states.specs.Trees.{tree_of}
+use Rattle.name_states.proofs.Basics.{none_not_some, same_or_not, same_from_test, test_same, test_apart, removed_here}
 use Rattle.name_states.proofs.Within.{AreMore}
 use Rattle.name_states.proofs.Trees.{tree-kept, body-tree-kept}
 use Rattle.task_states.specs.Maps.{chosen, each_changed}
@@ -19,21 +19,21 @@ use Rattle.task_states.specs.States.{Input, Known, Awaits, Unfinished, Graph, ta
 use Rattle.task_states.specs.Steps.{settled, redirected, all_delivered, inputs_redirected, asked_moved, forwarded, removed}
 use Rattle.task_states.proofs.Maps.{get-each_changed, same_maps}
 use Rattle.name_machine.specs.States.{Machine, Ask, is_of}
-use Rattle.name_machine.specs.Steps.{answered, settled_with}
+use Rattle.name_machine.specs.Steps.{answered}
 use Rattle.name_machine.specs.Facts.{HoldsTogether}
-use Rattle.name_machine.specs.Control.{Control, with_number, awaiting, copies_of, is_uncollected, answered_with, tidied, settled_to, without_task}
+use Rattle.name_machine.specs.Control.{Control, with_number, is_uncollected, answered_with, tidied, settled_to, without_task}
 use Rattle.name_machine.specs.Standing.{input_shown, task_shown, graph_shown, is_output, held_shown, ask_shown, machine_of, IsOrderly}
 use Rattle.name_machine.proofs.Values.{any_from, any_to}
 use Rattle.name_machine.proofs.Tasks.{mapped_from}
 use Rattle.name_machine.proofs.Ends.{inputs_at}
 use Rattle.name_machine.proofs.Invariant.{IsAskFor}
-use Rattle.name_machine.proofs.Stands.{Stand, ByValue, ByTask as StandsTask, asked_then, become, stood_at}
+use Rattle.name_machine.proofs.Stands.{ByValue, ByTask as StandsTask, asked_then, become, stood_at}
 use Rattle.name_machine.proofs.Answered.{answer_caller, answer_number, answer_other, answer_here}
 use Rattle.name_machine.proofs.Stand.{shown_at}
 use Rattle.name_machine.proofs.Orderly.{ref_is_live}
 use Rattle.name_machine.proofs.FinishMiddle.{Middle, ref_more}
 use Rattle.name_machine.proofs.FinishSettled.{deliver, settled_at, settled_here, IsAnswered, Answered, Stays, answer_is, copied, settled_graph, answered_asks, settled_control, settled_middle, settled_more, settled_from, input_copy, asked_copy, asked_free, answered_was, ends, forwarded_graph, forwarded_control, forwarded_middle, forward_ends}
-use Rattle.name_machine.proofs.FinishEnd.{left, ended, end_orderly, end_stays, end_was, end_tree, end_entry_tree, end_input_tree, end_output_tree}
+use Rattle.name_machine.proofs.FinishEnd.{left, ended, end_orderly, end_stays, end_was, end_tree, end_entry_tree}
 use Rattle.name_machine.proofs.FinishFacts.{ShowsAs, asks_by_facts, HeldOn, holdings_alike}
 
 -- ---- Inputs

@@ -1,9 +1,9 @@
 -- A finish of a control state is the machine's finish, and leaves a state in order.
-use Rattle.std.proofs.Common.{◌≡◌, ℕ, suc, ◌+◌, ◌≤◌, true, false, ◌&&◌, nat_cmp, List, [], ◌∷◌, map as each, slice_get, length, Option, None, Some, is_some, refl, sym, ap, subst, ◌∙◌, arith}
+use Rattle.std.proofs.Common.{◌≡◌, ℕ, suc, ◌+◌, ◌≤◌, true, false, List, [], ◌∷◌, map as each, slice_get, length, Option, None, Some, is_some, refl, sym, ap, subst, ◌∙◌, arith}
 use Rattle.std.specs.Option.{option_map}
 use Rattle.std.specs.FinMap as map
 use Rattle.cht_ids.specs.declared.refs.Ref.{Ref}
-use Rattle.cht_ids.specs.declared.refs.Ref.TheVariants.{Null as NullRef, Id as Held}
+use Rattle.cht_ids.specs.declared.refs.Ref.TheVariants.{Null as NullRef}
 use Rattle.task_types.specs.declared.outcome.Place.{Place}
 use Rattle.task_types.specs.declared.outcome.Place.TheVariants.{Null, Input as AtInput, Child, Chunk, Task}
 use Rattle.task_types.specs.declared.outcome.Places.{Places}
@@ -12,20 +12,18 @@ use Rattle.task_types.specs.declared.outcome.NewChunk.{NewChunk}
 use Rattle.task_types.specs.declared.outcome.Outcome.{Outcome}
 use Rattle.task_types.specs.Tree.{Tree, Nothing}
 use Rattle.task_types.specs.Presence.{Presence, presence_of}
-use Rattle.task_types.specs.Places.{places_of}
 use Rattle.task_types.specs.Formed.{may_stand}
 use Rattle.task_types.specs.Meanings.{Meanings}
 use Rattle.task_types.specs.Reading.{reading, new_trees}
 use Rattle.task_types.specs.Sound.{IsSound as IsSoundOutcome}
 use Rattle.task_types.proofs.FormedTest.{both_left}
-use Rattle.name_states.specs.declared.holder.Holder.TheVariants.{Caller as ByCaller, Task as ByTask}
-use Rattle.name_states.specs.States.{NameState, IdRecord, id_at, IsLiveRef, AreLive}
+use Rattle.name_states.specs.States.{NameState, IsLiveRef, AreLive}
 use Rattle.name_states.specs.Trees.{tree_of}
-use Rattle.name_states.proofs.Basics.{none_not_some, none_or_some, same_some}
+use Rattle.name_states.proofs.Basics.{none_not_some, same_some}
 use Rattle.name_states.proofs.Within.{AreMore}
 use Rattle.name_states.proofs.Trees.{tree-kept, body-tree-kept}
 use Rattle.task_states.specs.Maps.{chosen}
-use Rattle.task_states.specs.States.{Input, Known, Awaits, Unfinished, Graph, task_at}
+use Rattle.task_states.specs.States.{Input, Known, Awaits, Unfinished, task_at}
 use Rattle.task_states.specs.Steps.{forwarded}
 use Rattle.cht_history.specs.declared.event.Event.TheVariants.{Finish}
 use Rattle.name_machine.specs.States.{Machine, Ask}
@@ -38,10 +36,8 @@ use Rattle.name_machine.specs.Replay.{Plans, is_planned, is_finish, is_allowed}
 use Rattle.name_machine.specs.Forgetting.{forgotten}
 use Rattle.name_machine.specs.Standing.{input_shown, task_shown, graph_shown, held_shown, ask_shown, machine_of, IsOrderly}
 use Rattle.name_machine.specs.Laws.{IsAsWanted}
-use Rattle.name_machine.proofs.Tasks.{mapped_from}
 use Rattle.name_machine.proofs.Works.{chosen_from, chosen_to}
 use Rattle.name_machine.proofs.Added.{old_stays}
-use Rattle.name_machine.proofs.Ends.{inputs_at}
 use Rattle.name_machine.proofs.Invariant.{IsAskFor, facts as facts_of}
 use Rattle.name_machine.proofs.Runs.{ended, step_keeps}
 use Rattle.name_machine.proofs.WorkerParts.{runs_it}
@@ -49,9 +45,9 @@ use Rattle.name_machine.proofs.Stand.{shown_at}
 use Rattle.name_machine.proofs.Orderly.{input_is_live, output_is_live}
 use Rattle.name_machine.proofs.FinishNamesRead.{place_read, near_if}
 use Rattle.name_machine.proofs.FinishMiddle.{Middle, middle_of}
-use Rattle.name_machine.proofs.FinishChunks.{IsGoodChunk, good_chunk, all_near, ChunkStage, with_grown, all_chunks, chunks_draw}
+use Rattle.name_machine.proofs.FinishChunks.{good_chunk, all_near, ChunkStage, with_grown, all_chunks, chunks_draw}
 use Rattle.name_machine.proofs.FinishTasks.{value_ref, value_tree, good_kept, IsGood}
-use Rattle.name_machine.proofs.FinishAdded.{graph_alike, AllGood, TaskStage, with_all, all_tasks}
+use Rattle.name_machine.proofs.FinishAdded.{graph_alike, AllGood, TaskStage, all_tasks}
 use Rattle.name_machine.proofs.FinishFacts.{keeps_of, ShowsAs, HeldOn, holdings_alike}
 use Rattle.name_machine.proofs.FinishShown.{settled_stands, settled_orderly, forwarded_stands, forwarded_orderly}
 

@@ -1,35 +1,26 @@
 -- The new tasks of a task that is finished: each holds copies of what its places name.
-use Rattle.std.proofs.Common.{◌≡◌, ℕ, zero, suc, ◌+◌, ◌<◌, ◌≤◌, ◌⊎◌, inl, inr, true, false, List, [], ◌∷◌, map as each, slice_get, Option, None, Some, is_some, refl, sym, ap, subst, ◌∙◌, arith}
-use Rattle.std.specs.Option.{option_map}
-use Rattle.std.specs.FinMap as map
-use Rattle.cht_ids.specs.declared.refs.Id.{Id}
+use Rattle.std.proofs.Common.{◌≡◌, ℕ, zero, suc, ◌+◌, ◌<◌, ◌≤◌, ◌⊎◌, inl, inr, List, [], ◌∷◌, map as each, slice_get, Option, None, Some, refl, sym, ap, subst, ◌∙◌, arith}
 use Rattle.cht_ids.specs.declared.refs.Ref.{Ref}
 use Rattle.cht_ids.specs.declared.refs.Ref.TheVariants.{Null as NullRef, Id as Held}
 use Rattle.task_types.specs.declared.outcome.Place.{Place}
 use Rattle.task_types.specs.declared.outcome.Place.TheVariants.{Null, Input as AtInput, Child, Chunk, Task}
-use Rattle.task_types.specs.declared.outcome.NewTask.{NewTask}
 use Rattle.task_types.specs.Tree.{Tree, Nothing}
-use Rattle.task_types.specs.Places.{places_of}
 use Rattle.task_types.specs.Reading.{reading}
-use Rattle.name_states.specs.declared.holder.Holder.{Holder}
-use Rattle.name_states.specs.declared.holder.Holder.TheVariants.{Caller as ByCaller, Task as ByTask}
+use Rattle.name_states.specs.declared.holder.Holder.TheVariants.{Task as ByTask}
 use Rattle.name_states.specs.States.{NameState, IdRecord, id_at, IsLiveRef}
 use Rattle.name_states.specs.Rules.{IsSound, AreWithin}
 use Rattle.name_states.specs.Trees.{tree_of}
-use Rattle.name_states.proofs.Basics.{none_not_some, none_or_some, same_some, same_or_not, inserted_here, inserted_other, inserted_from}
+use Rattle.name_states.proofs.Basics.{none_not_some, none_or_some, same_some, same_or_not, inserted_here, inserted_other}
 use Rattle.name_states.proofs.Within.{AreMore, unnamed-next, within-more, live-kept}
 use Rattle.name_states.proofs.Trees.{tree-kept}
 use Rattle.task_states.specs.States.{Input, Known, Awaits, Unfinished, Graph, task_at, input_at}
 use Rattle.task_states.specs.Steps.{added}
-use Rattle.task_states.proofs.Maps.{same_maps}
-use Rattle.name_machine.specs.Control.{Control, with_number, ref_named, copy_of, input_copies, task_copies}
-use Rattle.name_machine.specs.NewTasks.{taken, drawn_by_tasks, number_at, new_inputs, with_tasks}
-use Rattle.name_machine.specs.Standing.{IsRefOf, AwaitsUnder, input_shown, task_shown, graph_shown}
-use Rattle.name_machine.proofs.Ends.{inputs_at}
-use Rattle.name_machine.proofs.Stand.{shown_at}
+use Rattle.name_machine.specs.Control.{with_number, ref_named, copy_of, input_copies}
+use Rattle.name_machine.specs.NewTasks.{taken, number_at, new_inputs}
+use Rattle.name_machine.specs.Standing.{IsRefOf, input_shown}
 use Rattle.name_machine.proofs.Orderly.{ref_is_live}
-use Rattle.name_machine.proofs.FinishNames.{GrowBy, more_by, sound_by, reached_by, within_by, grow_none, grow_twice, IsCopy, grow_copy, one_copy_there}
-use Rattle.name_machine.proofs.FinishMiddle.{Middle, ref_more}
+use Rattle.name_machine.proofs.FinishNames.{GrowBy, more_by, sound_by, within_by, grow_none, grow_twice, IsCopy, grow_copy, one_copy_there}
+use Rattle.name_machine.proofs.FinishMiddle.{ref_more}
 
 -- the number of a reference, and of an input
 abbrev pub number_of : Ref → Option ℕ
