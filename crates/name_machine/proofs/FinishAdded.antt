@@ -198,6 +198,13 @@ module _ {C K : Type 0} (arity : C → ℕ) (gone : ℕ) (base : NameState C) (i
       | inr new ↦ absurd (let clash : ByCaller by ≡ ByTask n = sym held ∙ new.0.2 in cc)
     ]
 
+    -- the finished task holds what it held
+    pub one_own : (q : ℕ) (entry : IdRecord) → id_at after q ≡ Some entry → entry.holder ≡ ByTask gone → id_at control.names q ≡ Some entry
+    one_own q entry is held = elim (walked.grow.from q entry is) [
+      | inl was ↦ was
+      | inr new ↦ absurd (let same : gone ≡ n = holder_is gone n (sym held ∙ new.0.2) in let low = middle.gone_low in omega arith)
+    ]
+
     -- what a known input of an old task leads to stays
     pub one_tree : (q p : ℕ) (t : Unfinished Ref K) (r : Ref) → task_at control.graph q ≡ Some t → slice_get t.inputs p ≡ Some (Known r) → tree_of after r ≡ tree_of control.names r
     one_tree q p t r is at =
@@ -222,6 +229,7 @@ module _ {C K : Type 0} (arity : C → ℕ) (gone : ℕ) (base : NameState C) (i
     pub middle : Middle arity gone after
     pub keeps : AreMore control.names after.names
     pub from : (q : ℕ) (entry : IdRecord) (by : ℕ) → id_at after.names q ≡ Some entry → entry.holder ≡ ByCaller by → id_at control.names q ≡ Some entry
+    pub own : (q : ℕ) (entry : IdRecord) → id_at after.names q ≡ Some entry → entry.holder ≡ ByTask gone → id_at control.names q ≡ Some entry
     pub shown : graph_shown after.names after.graph
         ≡ with_tasks (value_tree arity base inputs chunks trees made numbers) numbers caller control.drawn tasks (graph_shown control.names control.graph)
 
@@ -243,6 +251,7 @@ module _ {C K : Type 0} (arity : C → ℕ) (gone : ℕ) (base : NameState C) (i
         middle = subst (λ d. Middle arity gone (record control { drawn = d })) drawn_is middle;
         keeps = record { ids = λ q e is. is; bodies = λ q b is. is };
         from = λ q entry by is held. is;
+        own = λ q entry is held. is;
         shown = refl;
       }
   all_tasks (task ∷ tasks) control drawn middle good same =
@@ -258,6 +267,7 @@ module _ {C K : Type 0} (arity : C → ℕ) (gone : ℕ) (base : NameState C) (i
           bodies = λ q b is. rest.keeps.bodies q b (more.bodies q b is);
         };
         from = λ q entry by is held. one_from control middle task first q entry by (rest.from q entry by is held) held;
+        own = λ q entry is held. one_own control middle task first q entry (rest.own q entry is held) held;
         shown =
             rest.shown
             ∙ ap (with_tasks (value_tree arity base inputs chunks trees made numbers) numbers caller (control.drawn + 1 + taken (places_of task.inputs)) tasks) (one_graph control middle task first);

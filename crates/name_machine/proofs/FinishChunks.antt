@@ -1,5 +1,5 @@
 -- The new chunks of a task that is finished: each is a register that the task holds.
-use Rattle.std.proofs.Common.{◌≡◌, ℕ, zero, suc, ◌+◌, ◌≤◌, inl, inr, Bool, true, List, [], ◌∷◌, ◌++◌, map as each, slice_get, take, length, Some, is_some, IsSome, refl, sym, ap, subst, ◌∙◌, arith}
+use Rattle.std.proofs.Common.{◌≡◌, ℕ, zero, suc, ◌+◌, ◌≤◌, ◌⊎◌, inl, inr, Bool, true, List, [], ◌∷◌, ◌++◌, map as each, slice_get, take, length, Some, is_some, IsSome, refl, sym, ap, subst, ◌∙◌, arith}
 use Rattle.std.specs.List.{list_all}
 use Rattle.std.specs.FinMap as map
 use Rattle.cht_ids.specs.declared.refs.Id.{Id}
@@ -32,8 +32,11 @@ use Rattle.name_states.proofs.Reaching.{reached-more}
 use Rattle.name_machine.specs.Control.{Control, Grown, ref_named, chunk_more, chunks_more}
 use Rattle.name_machine.specs.NewTasks.{taken, drawn_by_chunks}
 use Rattle.name_machine.proofs.AskOrdered.{numbered_above}
+use Rattle.name_machine.specs.Standing.{IsRefOf}
+use Rattle.name_machine.proofs.Orderly.{entry_held}
+use Rattle.name_machine.proofs.FinishNames.{IsIn, in_left, in_right, in_either}
 use Rattle.name_machine.proofs.FinishNamesRead.{IsNear, near_if, live_more, place_read}
-use Rattle.name_machine.proofs.FinishMiddle.{Middle, middle_more}
+use Rattle.name_machine.proofs.FinishMiddle.{Middle, ref_more, middle_more}
 
 -- ---- Lists
 
@@ -136,6 +139,9 @@ module _ {C K : Type 0} (arity : C → ℕ) (gone : ℕ) (control : Control C (U
     pub read_inputs : each (tree_of grown.names) inputs ≡ trees
     pub live : AreLive grown.names grown.chunks
     pub read : each (tree_of grown.names) grown.chunks ≡ made
+    pub own : (q : ℕ) (entry : IdRecord) → id_at grown.names q ≡ Some entry → entry.holder ≡ ByTask gone
+        → (id_at control.names q ≡ Some entry) ⊎ IsIn (Held (record { owner = entry.owner; number = q })) grown.chunks
+    pub held : (r : Ref) → IsIn r grown.chunks → IsRefOf grown.names (ByTask gone) r
     pub up : control.drawn ≤ grown.drawn
 
   one_chunk : (grown : Grown C) (made : List (Tree C)) → ChunkStage grown made → (content : C) (places : List Place) → ((p : ℕ) (place : Place) → slice_get places p ≡ Some place → IsNear place)
@@ -194,6 +200,26 @@ module _ {C K : Type 0} (arity : C → ℕ) (gone : ℕ) (control : Control C (U
             tree-registered arity state drawn (ByTask gone) worker content refs sound within reads.0
             ∙ ap (rooted content) (reads.1 ∙ (λ i. each (reading (given i) (before i) []) places)) in
             λ i. old i ++ new i ∷ []);
+        own = λ q e is held. elim (naming-from state drawn (ByTask gone) worker content refs within reads.0 q e is) [
+          | inl was ↦ elim (stage.own q e was held) [
+            | inl old ↦ inl old
+            | inr among ↦ inr (in_left (Held (record { owner = e.owner; number = q })) grown.chunks (Held id ∷ []) among)
+          ]
+          | inr new ↦ elim new [
+            | inl first ↦
+                let number = first.0 in
+                let owner : e.owner ≡ worker = ap (λ (n : IdRecord). n.owner) first.1 in
+                inr (in_right (Held (record { owner = e.owner; number = q })) grown.chunks (Held id ∷ []) (inl (λ i. Held (record { owner = owner i; number = number i }))))
+            | inr copy ↦ absurd (let clash : ByTask gone ≡ ByBody (drawn + 1) = sym held ∙ ap (λ (n : IdRecord). n.holder) copy.4 in cc)
+          ]
+        ];
+        held = λ r among. elim (in_either r grown.chunks (Held id ∷ []) among) [
+          | inl old ↦ ref_more state after (ByTask gone) r are_more (stage.held r old)
+          | inr new ↦ elim new [
+            | inl here ↦ subst (IsRefOf after (ByTask gone)) (sym here) (entry_held after (ByTask gone) id entry (new-naming state drawn (ByTask gone) worker content refs within) refl refl)
+            | inr never ↦ absurd never
+          ]
+        ];
         up = let low = stage.up in omega arith;
       }
 

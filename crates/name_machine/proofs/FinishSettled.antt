@@ -406,6 +406,18 @@ module _ {C K : Type 0} (arity : C → ℕ) (gone : ℕ) (control : Control C (U
           caller_is by ran.caller (sym held ∙ own ∙ ap (λ (v : Unfinished Ref K). ByCaller v.caller) (ran_is t at)),
         )
 
+    -- the finished task holds what it held, where it awaits nothing
+    pub settled_own : ((place a n : ℕ) → input_at control.graph gone place ≡ Some (Awaits a n) → ⊥) → (q : ℕ) (entry : IdRecord) → id_at copied q ≡ Some entry → entry.holder ≡ ByTask gone
+        → id_at control.names q ≡ Some entry
+    settled_own idle q entry is held = elim (grow.from q entry is) [
+      | inl was ↦ was
+      | inr new ↦ absurd (go (awaiter_of control.graph gone q entry.holder new.0.0))
+    ]
+      where
+        go : IsAwaiter control.graph gone q entry.holder → ⊥
+        go (ByInput of place at own) = idle place gone q (ap (λ k. input_at control.graph k place) (holder_is gone of (sym held ∙ own)) ∙ at)
+        go (ByAsk t at asked own) = let clash : ByTask gone ≡ ByCaller t.caller = sym held ∙ own in cc
+
   -- ---- A result that is a new task
 
   module _ (to : ℕ) where

@@ -45,6 +45,7 @@ pub mod FinishSettled
 pub mod FinishEnd
 pub mod FinishFacts
 pub mod FinishShown
+pub mod FinishStages
 pub mod FinishStands
 pub mod KeepsOrder
 pub mod FewerStand
