@@ -26,7 +26,7 @@ use Rattle.cht_history.specs.declared.event.Event.{Event}
 use Rattle.cht_history.specs.declared.event.Event.TheVariants.{Register, Copy, Delete, Ask as AskEvent, Collect, Start, GiveBack, Finish}
 use Rattle.name_machine.specs.States.{Ask}
 use Rattle.name_machine.specs.Control.{tidied, ref_at, with_number, ref_known, is_uncollected, is_held_by, answered_with, numbers_awaiting, asked_numbers, copies_of, settled_to, without_task, after_finish}
-use Rattle.name_machine.specs.Replay.{Plans, Replayed, is_held, is_caller, is_ready, is_runner, is_run_by, is_callers, is_mine, presence_of_ref, is_delivered, is_finish, is_allowed, effect, happens, replay_from, replay}
+use Rattle.name_machine.specs.Replay.{Plans, Replayed, is_held, is_caller, is_ready, is_runner, is_run_by, is_callers, is_mine, presence_of_ref, is_delivered, is_finish, is_allowed, effect, happens, replay_from}
 use Rattle.name_machine.specs.Example.{id, childless, example_events, TakesExample}
 use Rattle.name_machine.proofs.Listed.{made, in_order, made_entries, made_get, only, made_only, but, made_but, each_entry, made_each, onto_list, made_put, nm, copied_listed, copied_same, left_ids, left_bodies, swept_same}
 

@@ -19,12 +19,13 @@ use Rattle.task_states.proofs.Maps.{same_maps}
 use Rattle.name_machine.specs.Control.{Control, input_copies, task_copies}
 use Rattle.name_machine.specs.NewTasks.{taken, drawn_by_tasks, new_inputs, with_tasks}
 use Rattle.name_machine.specs.Standing.{IsRefOf, input_shown, task_shown, graph_shown}
+use Rattle.name_machine.proofs.Ordered.{input_from}
 use Rattle.name_machine.proofs.Ends.{inputs_at}
 use Rattle.name_machine.proofs.Stand.{shown_at}
 use Rattle.name_machine.proofs.Orderly.{ref_is_live}
 use Rattle.name_machine.proofs.FinishNames.{more_by, sound_by, reached_by, within_by}
 use Rattle.name_machine.proofs.FinishMiddle.{Middle, ref_more}
-use Rattle.name_machine.proofs.FinishTasks.{free_by, input_task, added_here, added_other, added_from, read, value_ref, value_tree, IsGood, AreGood, good_kept, IsNewInput, Walk, walk, holder_is}
+use Rattle.name_machine.proofs.FinishTasks.{free_by, added_here, added_other, added_from, read, value_ref, value_tree, IsGood, AreGood, good_kept, IsNewInput, Walk, walk, holder_is}
 
 -- ---- Shown graphs
 
@@ -114,7 +115,7 @@ module _ {C K : Type 0} (arity : C → ℕ) (gone : ℕ) (base : NameState C) (i
 
     old_input : (q p : ℕ) (x : Input Ref) → input_at control.graph q p ≡ Some x → input_at with_one.graph q p ≡ Some x
     old_input q p x is =
-        let t = input_task control.graph q p x is in
+        let t = input_from control.graph q p x is in
         let low = middle.numbered q t.0 t.1 in
         added_other control.graph n caller task.kind ins q p (λ same. omega arith) ∙ is
 
@@ -197,6 +198,13 @@ module _ {C K : Type 0} (arity : C → ℕ) (gone : ℕ) (base : NameState C) (i
       | inr new ↦ absurd (let clash : ByCaller by ≡ ByTask n = sym held ∙ new.0.2 in cc)
     ]
 
+    -- the finished task holds what it held
+    pub one_own : (q : ℕ) (entry : IdRecord) → id_at after q ≡ Some entry → entry.holder ≡ ByTask gone → id_at control.names q ≡ Some entry
+    one_own q entry is held = elim (walked.grow.from q entry is) [
+      | inl was ↦ was
+      | inr new ↦ absurd (let same : gone ≡ n = holder_is gone n (sym held ∙ new.0.2) in let low = middle.gone_low in omega arith)
+    ]
+
     -- what a known input of an old task leads to stays
     pub one_tree : (q p : ℕ) (t : Unfinished Ref K) (r : Ref) → task_at control.graph q ≡ Some t → slice_get t.inputs p ≡ Some (Known r) → tree_of after r ≡ tree_of control.names r
     one_tree q p t r is at =
@@ -221,6 +229,7 @@ module _ {C K : Type 0} (arity : C → ℕ) (gone : ℕ) (base : NameState C) (i
     pub middle : Middle arity gone after
     pub keeps : AreMore control.names after.names
     pub from : (q : ℕ) (entry : IdRecord) (by : ℕ) → id_at after.names q ≡ Some entry → entry.holder ≡ ByCaller by → id_at control.names q ≡ Some entry
+    pub own : (q : ℕ) (entry : IdRecord) → id_at after.names q ≡ Some entry → entry.holder ≡ ByTask gone → id_at control.names q ≡ Some entry
     pub shown : graph_shown after.names after.graph
         ≡ with_tasks (value_tree arity base inputs chunks trees made numbers) numbers caller control.drawn tasks (graph_shown control.names control.graph)
 
@@ -242,6 +251,7 @@ module _ {C K : Type 0} (arity : C → ℕ) (gone : ℕ) (base : NameState C) (i
         middle = subst (λ d. Middle arity gone (record control { drawn = d })) drawn_is middle;
         keeps = record { ids = λ q e is. is; bodies = λ q b is. is };
         from = λ q entry by is held. is;
+        own = λ q entry is held. is;
         shown = refl;
       }
   all_tasks (task ∷ tasks) control drawn middle good same =
@@ -257,6 +267,7 @@ module _ {C K : Type 0} (arity : C → ℕ) (gone : ℕ) (base : NameState C) (i
           bodies = λ q b is. rest.keeps.bodies q b (more.bodies q b is);
         };
         from = λ q entry by is held. one_from control middle task first q entry by (rest.from q entry by is held) held;
+        own = λ q entry is held. one_own control middle task first q entry (rest.own q entry is held) held;
         shown =
             rest.shown
             ∙ ap (with_tasks (value_tree arity base inputs chunks trees made numbers) numbers caller (control.drawn + 1 + taken (places_of task.inputs)) tasks) (one_graph control middle task first);

@@ -9,10 +9,10 @@ use Rattle.name_states.specs.declared.holder.Holder.TheVariants.{Caller as ByCal
 use Rattle.name_states.proofs.Basics.{none_not_some, same_some, same_or_not, same_from_test, test_same, test_apart}
 use Rattle.task_states.specs.States.{Input, Known, Awaits, Unfinished, Graph, task_at, input_at}
 use Rattle.name_machine.specs.Control.{number_awaiting, number_asked, numbers_awaiting, asked_numbers, awaiting}
+use Rattle.name_machine.proofs.Ordered.{input_from}
 use Rattle.name_machine.proofs.Values.{find_first, below_missed, left_holds, right_holds}
 use Rattle.name_machine.proofs.Ends.{inputs_at}
 use Rattle.name_machine.proofs.FinishNames.{IsIn, in_left, in_right, in_either}
-use Rattle.name_machine.proofs.FinishTasks.{input_task}
 
 module _ {X : Type 0} where
   in_at : (x : X) (xs : List X) → IsIn x xs → (i : ℕ) × (slice_get xs i ≡ Some x)
@@ -127,7 +127,7 @@ module _ {K : Type 0} (graph : Graph Ref K) (task : ℕ) where
 
   pub awaiter_in : (n : ℕ) (h : Holder) → IsAwaiter n h → IsIn (n, h) (awaiting graph task)
   awaiter_in n h (ByInput of place at held) =
-      let t = input_task graph of place (Awaits task n) at in
+      let t = input_from graph of place (Awaits task n) at in
       subst (λ k. IsIn (n, k) (awaiting graph task)) (sym held)
       (in_left (n, ByTask of) (flat_map (numbers_awaiting task) (map.entries graph.tasks)) (asked_numbers (task_at graph task))
       (flat_from (numbers_awaiting task) (n, ByTask of) (of, t.0) (map.entries graph.tasks) (entry_in graph.tasks of t.0 t.1)

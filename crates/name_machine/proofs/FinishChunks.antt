@@ -1,10 +1,10 @@
 -- The new chunks of a task that is finished: each is a register that the task holds.
-use Rattle.std.proofs.Common.{◌≡◌, ℕ, zero, suc, ◌+◌, ◌<◌, ◌≤◌, inl, inr, Bool, true, List, [], ◌∷◌, ◌++◌, map as each, slice_get, take, length, Some, is_some, IsSome, refl, sym, ap, subst, ◌∙◌, arith}
+use Rattle.std.proofs.Common.{◌≡◌, ℕ, zero, suc, ◌+◌, ◌≤◌, ◌⊎◌, inl, inr, Bool, true, List, [], ◌∷◌, ◌++◌, map as each, slice_get, take, length, Some, is_some, IsSome, refl, sym, ap, subst, ◌∙◌, arith}
 use Rattle.std.specs.List.{list_all}
 use Rattle.std.specs.FinMap as map
 use Rattle.cht_ids.specs.declared.refs.Id.{Id}
 use Rattle.cht_ids.specs.declared.refs.Ref.{Ref}
-use Rattle.cht_ids.specs.declared.refs.Ref.TheVariants.{Null as NullRef, Id as Held}
+use Rattle.cht_ids.specs.declared.refs.Ref.TheVariants.{Id as Held}
 use Rattle.task_types.specs.declared.outcome.Place.{Place}
 use Rattle.task_types.specs.declared.outcome.Place.TheVariants.{Null, Input as AtInput, Child, Chunk, Task}
 use Rattle.task_types.specs.declared.outcome.NewChunk.{NewChunk}
@@ -31,8 +31,12 @@ use Rattle.name_states.proofs.Trees.{tree-kept}
 use Rattle.name_states.proofs.Reaching.{reached-more}
 use Rattle.name_machine.specs.Control.{Control, Grown, ref_named, chunk_more, chunks_more}
 use Rattle.name_machine.specs.NewTasks.{taken, drawn_by_chunks}
+use Rattle.name_machine.proofs.AskOrdered.{numbered_above}
+use Rattle.name_machine.specs.Standing.{IsRefOf}
+use Rattle.name_machine.proofs.Orderly.{entry_held}
+use Rattle.name_machine.proofs.FinishNames.{IsIn, in_left, in_right, in_either}
 use Rattle.name_machine.proofs.FinishNamesRead.{IsNear, near_if, live_more, place_read}
-use Rattle.name_machine.proofs.FinishMiddle.{Middle, middle_more}
+use Rattle.name_machine.proofs.FinishMiddle.{Middle, ref_more, middle_more}
 
 -- ---- Lists
 
@@ -57,19 +61,6 @@ length_taken (suc n) (x ∷ xs) low = ap suc (length_taken n xs (omega arith))
 -- all places that may stand are near
 pub all_near : (known : List Presence) (chunks tasks : ℕ) (places : Places) → MayStand known chunks tasks places → (p : ℕ) (place : Place) → slice_get (places_of places) p ≡ Some place → IsNear place
 all_near known chunks tasks places may p place at = near_if known chunks tasks place (passes_at (may_stand known chunks tasks) (places_of places) p place may.each at)
-
--- identifiers of children have numbers that are drawn now
-numbered_high : (drawn : ℕ) (refs : List Ref) (j : ℕ) (id : Id) → slice_get (numbered drawn refs) j ≡ Some (Held id) → drawn < id.number
-numbered_high drawn [] j id is = absurd (none_not_some refl is)
-numbered_high drawn (NullRef ∷ refs) zero id is = absurd (let clash : NullRef ≡ Held id = same_some NullRef (Held id) is in cc)
-numbered_high drawn (Held other ∷ refs) zero id is =
-    let next : Id = record { owner = other.owner; number = drawn + 1 } in
-    let heads : Held next ≡ Held id = same_some (Held next) (Held id) is in
-    let same : next ≡ id = cc in
-    let number : drawn + 1 ≡ id.number = ap (λ (i : Id). i.number) same in
-    omega arith
-numbered_high drawn (NullRef ∷ refs) (suc j) id is = let h = numbered_high (drawn + 0) refs j id is in omega arith
-numbered_high drawn (Held other ∷ refs) (suc j) id is = let h = numbered_high (drawn + 1) refs j id is in omega arith
 
 task_is : (a b : ℕ) → ByTask a ≡ ByTask b → a ≡ b
 task_is a b same = cc
@@ -148,6 +139,9 @@ module _ {C K : Type 0} (arity : C → ℕ) (gone : ℕ) (control : Control C (U
     pub read_inputs : each (tree_of grown.names) inputs ≡ trees
     pub live : AreLive grown.names grown.chunks
     pub read : each (tree_of grown.names) grown.chunks ≡ made
+    pub own : (q : ℕ) (entry : IdRecord) → id_at grown.names q ≡ Some entry → entry.holder ≡ ByTask gone
+        → (id_at control.names q ≡ Some entry) ⊎ IsIn (Held (record { owner = entry.owner; number = q })) grown.chunks
+    pub held : (r : Ref) → IsIn r grown.chunks → IsRefOf grown.names (ByTask gone) r
     pub up : control.drawn ≤ grown.drawn
 
   one_chunk : (grown : Grown C) (made : List (Tree C)) → ChunkStage grown made → (content : C) (places : List Place) → ((p : ℕ) (place : Place) → slice_get places p ≡ Some place → IsNear place)
@@ -176,7 +170,7 @@ module _ {C K : Type 0} (arity : C → ℕ) (gone : ℕ) (control : Control C (U
                 | inl first ↦ inr (let at = first.0 in omega arith, λ t held. task_is t gone (sym held ∙ ap (λ (n : IdRecord). n.holder) first.1))
                 | inr copy ↦
                     inr (
-                      let high = numbered_high (drawn + 2) refs copy.2 (record { owner = copy.0.owner; number = q }) copy.5 in omega arith,
+                      let high = numbered_above (drawn + 2) refs copy.2 (record { owner = copy.0.owner; number = q }) copy.5 in omega arith,
                       λ t held. absurd (let clash : ByTask t ≡ ByBody (drawn + 1) = sym held ∙ ap (λ (n : IdRecord). n.holder) copy.4 in cc),
                     )
               ]
@@ -206,6 +200,26 @@ module _ {C K : Type 0} (arity : C → ℕ) (gone : ℕ) (control : Control C (U
             tree-registered arity state drawn (ByTask gone) worker content refs sound within reads.0
             ∙ ap (rooted content) (reads.1 ∙ (λ i. each (reading (given i) (before i) []) places)) in
             λ i. old i ++ new i ∷ []);
+        own = λ q e is held. elim (naming-from state drawn (ByTask gone) worker content refs within reads.0 q e is) [
+          | inl was ↦ elim (stage.own q e was held) [
+            | inl old ↦ inl old
+            | inr among ↦ inr (in_left (Held (record { owner = e.owner; number = q })) grown.chunks (Held id ∷ []) among)
+          ]
+          | inr new ↦ elim new [
+            | inl first ↦
+                let number = first.0 in
+                let owner : e.owner ≡ worker = ap (λ (n : IdRecord). n.owner) first.1 in
+                inr (in_right (Held (record { owner = e.owner; number = q })) grown.chunks (Held id ∷ []) (inl (λ i. Held (record { owner = owner i; number = number i }))))
+            | inr copy ↦ absurd (let clash : ByTask gone ≡ ByBody (drawn + 1) = sym held ∙ ap (λ (n : IdRecord). n.holder) copy.4 in cc)
+          ]
+        ];
+        held = λ r among. elim (in_either r grown.chunks (Held id ∷ []) among) [
+          | inl old ↦ ref_more state after (ByTask gone) r are_more (stage.held r old)
+          | inr new ↦ elim new [
+            | inl here ↦ subst (IsRefOf after (ByTask gone)) (sym here) (entry_held after (ByTask gone) id entry (new-naming state drawn (ByTask gone) worker content refs within) refl refl)
+            | inr never ↦ absurd never
+          ]
+        ];
         up = let low = stage.up in omega arith;
       }
 

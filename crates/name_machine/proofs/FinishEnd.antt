@@ -17,10 +17,10 @@ use Rattle.name_states.proofs.SweptOnce.{all-reached-swept, sound-swept}
 use Rattle.task_states.specs.States.{Known, task_at, input_at}
 use Rattle.name_machine.specs.Control.{Control, is_task, is_held_by, without_ids}
 use Rattle.name_machine.specs.Standing.{IsRefOf, IsOrderly}
+use Rattle.name_machine.proofs.Ordered.{input_from}
 use Rattle.name_machine.proofs.Orderly.{ref_is_live, ref_kept}
-use Rattle.name_machine.proofs.FinishNames.{left_from, left_there, sound_left}
+use Rattle.name_machine.proofs.Fewer.{left_at, stays_at, sound_without_ids}
 use Rattle.name_machine.proofs.FinishMiddle.{Middle}
-use Rattle.name_machine.proofs.FinishTasks.{input_task}
 
 not_the_task : (gone : ℕ) (holder : Holder) → (holder ≡ ByTask gone → ⊥) → is_task gone holder ≡ false
 not_the_task gone (ByCaller caller) apart = refl
@@ -39,7 +39,7 @@ module _ {C : Type 0} (arity : C → ℕ) (gone : ℕ) (names : NameState C) (so
   left = swept fewer
 
   fewer_sound : IsSound arity fewer
-  fewer_sound = sound_left names (is_held_by gone) arity sound (λ q entry body held. ap (is_task gone) held)
+  fewer_sound = sound_without_ids names (is_held_by gone) arity sound (λ q entry body held. ap (is_task gone) held)
 
   pub end_sound : IsSound arity left
   end_sound = sound-swept arity fewer fewer_sound
@@ -49,12 +49,12 @@ module _ {C : Type 0} (arity : C → ℕ) (gone : ℕ) (names : NameState C) (so
 
   pub end_was : (q : ℕ) (entry : IdRecord) → id_at left q ≡ Some entry → (id_at names q ≡ Some entry) × (entry.holder ≡ ByTask gone → ⊥)
   end_was q entry is =
-      let was = left_from names (is_held_by gone) q entry (id-left fewer q entry is).0 in
+      let was = left_at names (is_held_by gone) q entry (id-left fewer q entry is).0 in
       (was.0, is_the_task gone entry.holder was.1)
 
   pub end_stays : (q : ℕ) (entry : IdRecord) → id_at names q ≡ Some entry → IsOutside entry.holder → (entry.holder ≡ ByTask gone → ⊥) → id_at left q ≡ Some entry
   end_stays q entry is outside apart =
-      id-kept fewer (sound-down arity fewer fewer_sound) q entry (left_there names (is_held_by gone) q entry is (not_the_task gone entry.holder apart)) (up_from_outside fewer entry.holder outside)
+      id-kept fewer (sound-down arity fewer fewer_sound) q entry (stays_at names (is_held_by gone) q entry is (not_the_task gone entry.holder apart)) (up_from_outside fewer entry.holder outside)
 
   pub end_more : AreMore left names
   end_more = record { ids = λ q entry is. (end_was q entry is).0; bodies = λ q body is. (body-left fewer q body is).0 }
@@ -91,7 +91,7 @@ module _ {C K : Type 0} (arity : C → ℕ) (gone : ℕ) (control : Control C (U
   pub not_gone : (task place : ℕ) (r : Ref) → input_at control.graph task place ≡ Some (Known r) → ByTask task ≡ ByTask gone → ⊥
   not_gone task place r is same =
       let task_is : task ≡ gone = cc in
-      let t = input_task control.graph task place (Known r) is in
+      let t = input_from control.graph task place (Known r) is in
       none_not_some (ap (task_at control.graph) task_is ∙ none) t.1
 
   not_task : (caller : ℕ) → ByCaller caller ≡ ByTask gone → ⊥

@@ -1,5 +1,5 @@
--- Names that grow by copies: what they keep. Copies of one reference under free numbers, and fewer names.
-use Rattle.std.proofs.Common.{◌≡◌, ℕ, ◌≤◌, ◌⊎◌, inl, inr, Bool, true, false, cond, not, List, [], ◌∷◌, ◌++◌, Option, None, Some, is_some, IsSome, refl, sym, ap, subst, ◌∙◌, arith}
+-- Names that grow by copies: what they keep, and copies of one reference under free numbers.
+use Rattle.std.proofs.Common.{◌≡◌, ℕ, ◌≤◌, ◌⊎◌, inl, inr, List, [], ◌∷◌, ◌++◌, None, Some, is_some, IsSome, refl, sym, ap, subst, ◌∙◌, arith}
 use Rattle.std.specs.Option.{option_map}
 use Rattle.std.specs.FinMap as map
 use Rattle.cht_ids.specs.declared.refs.Id.{Id}
@@ -12,12 +12,12 @@ use Rattle.name_states.specs.Steps.{IsOutside, without_id}
 use Rattle.name_states.specs.Steps as names
 use Rattle.name_states.specs.Rules.{IsSound, AreReached, AreWithin}
 use Rattle.name_states.specs.Trees.{tree_named, body_tree, tree_of}
-use Rattle.name_states.proofs.Basics.{none_not_some, some_value, same_some, same_or_not, inserted_here, inserted_other, get_retained}
+use Rattle.name_states.proofs.Basics.{none_not_some, some_value, same_some, same_or_not, inserted_here, inserted_other}
 use Rattle.name_states.proofs.Within.{AreMore, number-naming, naming-number}
 use Rattle.name_states.proofs.Copies.{copied-here, copied-from, bodies-with_copy}
 use Rattle.name_states.proofs.Reaching.{reached-more}
 use Rattle.name_states.proofs.Trees.{body-tree-kept}
-use Rattle.name_machine.specs.Control.{with_number, copy_of, copies_of, without_ids}
+use Rattle.name_machine.specs.Control.{with_number, copy_of, copies_of}
 use Rattle.name_machine.specs.Standing.{IsRefOf}
 
 -- something is one of a list
@@ -49,10 +49,6 @@ IsCopy r number holder q entry = (q ≡ number) × (entry.holder ≡ holder) × 
 -- a copy of one of a list
 abbrev pub IsCopyIn : Ref → List (ℕ × Holder) → ℕ → IdRecord → Type 0
 IsCopyIn r list q entry = IsIn (q, entry.holder) list × (with_number r q ≡ Held (record { owner = entry.owner; number = q }))
-
-gone_or_not : (b : Bool) (o : Option IdRecord) (entry : IdRecord) → cond (not b) o None ≡ Some entry → (o ≡ Some entry) × (b ≡ false)
-gone_or_not true o entry is = absurd (none_not_some refl is)
-gone_or_not false o entry is = (is, refl)
 
 module _ {C : Type 0} where
   -- Names grow by identifiers of which each passes a test, is held by a caller or a task, and names a body that an old one names.
@@ -184,7 +180,7 @@ module _ {C : Type 0} where
 
   -- ---- Copies of one reference, in any order
 
-  null_copies : (state : NameState C) (list : List (ℕ × Holder)) → copies_of state Null list ≡ state
+  pub null_copies : (state : NameState C) (list : List (ℕ × Holder)) → copies_of state Null list ≡ state
   null_copies state [] = refl
   null_copies state (one ∷ more) = null_copies state more
 
@@ -255,7 +251,7 @@ module _ {C : Type 0} where
           | inr new ↦ inr (new.0, inr new.1, new.2)
         ]
 
-  copies_bodies : (state : NameState C) (r : Ref) (list : List (ℕ × Holder)) → (copies_of state r list).bodies ≡ state.bodies
+  pub copies_bodies : (state : NameState C) (r : Ref) (list : List (ℕ × Holder)) → (copies_of state r list).bodies ≡ state.bodies
   copies_bodies state r [] = refl
   copies_bodies state Null (one ∷ more) = copies_bodies state Null more
   copies_bodies state (Held id) (one ∷ more) =
@@ -303,28 +299,3 @@ module _ {C : Type 0} where
       copy_there arity state (copies_of state (Held id) list) id found.0 q holder sound
       (more_by state (copies_of state (Held id) list) (IsCopyIn (Held id) list) (grow_copies state (Held id) list live free))
       at.0 at.1 (copies_here id found.0 state list q holder at.0 apart one among)
-
-  -- ---- Fewer names
-
-  module _ (state : NameState C) (goes : ℕ → Option IdRecord → Bool) where
-    pub left_from : (q : ℕ) (entry : IdRecord) → id_at (without_ids state goes) q ≡ Some entry → (id_at state q ≡ Some entry) × (goes q (Some entry) ≡ false)
-    left_from q entry is =
-        let both = gone_or_not (goes q (id_at state q)) (id_at state q) entry (sym (get_retained state.ids (λ n. not (goes n (id_at state n))) q) ∙ is) in
-        (both.0, ap (goes q) (sym both.0) ∙ both.1)
-
-    pub left_there : (q : ℕ) (entry : IdRecord) → id_at state q ≡ Some entry → goes q (Some entry) ≡ false → id_at (without_ids state goes) q ≡ Some entry
-    left_there q entry is stays =
-        get_retained state.ids (λ n. not (goes n (id_at state n))) q
-        ∙ ap (λ b. cond (not b) (id_at state q) None) (ap (goes q) is ∙ stays)
-        ∙ is
-
-    -- where no body's identifier goes, the rules hold
-    pub sound_left : (arity : C → ℕ) → IsSound arity state → ((q : ℕ) (entry : IdRecord) (body : ℕ) → entry.holder ≡ Body body → goes q (Some entry) ≡ false) → IsSound arity (without_ids state goes)
-    sound_left arity sound stay = record {
-      named = λ q entry is. sound.named q entry (left_from q entry is).0;
-      children = λ q body j id is at.
-          let by = sound.children q body j id is at in
-          (by.0, left_there id.number by.0 by.1 (stay id.number by.0 q by.3), by.2, by.3, by.4);
-      held = λ q entry holder is held. sound.held q entry holder (left_from q entry is).0 held;
-      all_children = sound.all_children;
-    }

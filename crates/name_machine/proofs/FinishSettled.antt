@@ -18,13 +18,14 @@ use Rattle.task_states.proofs.Maps.{get-each_changed}
 use Rattle.name_machine.specs.States.{Ask}
 use Rattle.name_machine.specs.Control.{Control, with_number, copies_of, awaiting, answered_with}
 use Rattle.name_machine.specs.Standing.{HasNumber, HasNoOutput, IsRefOf}
+use Rattle.name_machine.proofs.Ordered.{input_from}
 use Rattle.name_machine.proofs.Tasks.{changed_other, mapped_from}
 use Rattle.name_machine.proofs.Invariant.{IsAskFor}
 use Rattle.name_machine.proofs.Stands.{ByTask as StandsTask, become, stood_at}
 use Rattle.name_machine.proofs.Orderly.{held_entry}
 use Rattle.name_machine.proofs.FinishNames.{IsIn, GrowBy, more_by, sound_by, reached_by, within_by, IsCopyIn, IsCopyThere, grow_copies, copies_there}
 use Rattle.name_machine.proofs.FinishMiddle.{Middle, ref_more}
-use Rattle.name_machine.proofs.FinishTasks.{free_by, input_task, known_is, holder_is}
+use Rattle.name_machine.proofs.FinishTasks.{free_by, known_is, holder_is}
 use Rattle.name_machine.proofs.FinishAwaiting.{IsAwaiter, ByInput, ByAsk, awaiter_of, awaiter_in}
 
 -- ---- Inputs where one task ends
@@ -88,7 +89,7 @@ module _ {X K : Type 0} where
   module _ (graph after : Graph X K) (gone : ℕ) (f : Input X → Input X) (ends : EndsBy graph after gone f) where
     pub end_from : (q p : ℕ) (x : Input X) → input_at after q p ≡ Some x → (q ≡ gone → ⊥) × (i : Input X) × (input_at graph q p ≡ Some i) × (x ≡ f i)
     end_from q p x is =
-        let t = input_task after q p x is in
+        let t = input_from after q p x is in
         let apart : q ≡ gone → ⊥ = λ same. none_not_some (ap (task_at after) same ∙ ends.none) t.1 in
         let was = mapped_from f (input_at graph q p) x (sym (ends.inputs q p apart) ∙ is) in
         (apart, was.0, was.1, was.2)
@@ -404,6 +405,18 @@ module _ {C K : Type 0} (arity : C → ℕ) (gone : ℕ) (control : Control C (U
           ap (λ (v : Unfinished Ref K). v.asked) (sym (ran_is t at)) ∙ asked,
           caller_is by ran.caller (sym held ∙ own ∙ ap (λ (v : Unfinished Ref K). ByCaller v.caller) (ran_is t at)),
         )
+
+    -- the finished task holds what it held, where it awaits nothing
+    pub settled_own : ((place a n : ℕ) → input_at control.graph gone place ≡ Some (Awaits a n) → ⊥) → (q : ℕ) (entry : IdRecord) → id_at copied q ≡ Some entry → entry.holder ≡ ByTask gone
+        → id_at control.names q ≡ Some entry
+    settled_own idle q entry is held = elim (grow.from q entry is) [
+      | inl was ↦ was
+      | inr new ↦ absurd (go (awaiter_of control.graph gone q entry.holder new.0.0))
+    ]
+      where
+        go : IsAwaiter control.graph gone q entry.holder → ⊥
+        go (ByInput of place at own) = idle place gone q (ap (λ k. input_at control.graph k place) (holder_is gone of (sym held ∙ own)) ∙ at)
+        go (ByAsk t at asked own) = let clash : ByTask gone ≡ ByCaller t.caller = sym held ∙ own in cc
 
   -- ---- A result that is a new task
 

@@ -6,12 +6,11 @@ use Rattle.std.specs.FinMap as map
 use Rattle.cht_ids.specs.declared.refs.Ref.{Ref}
 use Rattle.task_types.specs.Tree.{Tree}
 use Rattle.task_types.specs.Meanings.{Meanings}
-use Rattle.task_types.proofs.FormedTest.{both_left, both_right}
 use Rattle.name_states.specs.declared.holder.Holder.TheVariants.{Caller as ByCaller, Task as ByTask}
 use Rattle.name_states.specs.States.{NameState, IdRecord, id_at, IsLiveRef}
 use Rattle.name_states.specs.Steps.{IsOutside}
 use Rattle.name_states.specs.Trees.{tree_of}
-use Rattle.name_states.proofs.Basics.{none_not_some, same_or_not, same_from_test, test_same, test_apart, removed_here}
+use Rattle.name_states.proofs.Basics.{none_not_some, same_or_not, test_same, test_apart, removed_here}
 use Rattle.name_states.proofs.Within.{AreMore}
 use Rattle.name_states.proofs.Trees.{tree-kept, body-tree-kept}
 use Rattle.task_states.specs.Maps.{chosen, each_changed}
@@ -29,6 +28,8 @@ use Rattle.name_machine.proofs.Ends.{inputs_at}
 use Rattle.name_machine.proofs.Invariant.{IsAskFor}
 use Rattle.name_machine.proofs.Stands.{ByValue, ByTask as StandsTask, asked_then, become, stood_at}
 use Rattle.name_machine.proofs.Answered.{answer_caller, answer_number, answer_other, answer_here}
+use Rattle.name_machine.proofs.Grow.{uncollected_number}
+use Rattle.name_machine.proofs.Linking.{same_bools}
 use Rattle.name_machine.proofs.Stand.{shown_at}
 use Rattle.name_machine.proofs.Orderly.{ref_is_live}
 use Rattle.name_machine.proofs.FinishMiddle.{Middle, ref_more}
@@ -85,16 +86,8 @@ module _ {X K : Type 0} where
   abbrev asked_in : Option (Unfinished X K) → Option ℕ
   asked_in o = elim o as (λ x. Option ℕ) [ None ↦ None | Some task ↦ task.asked ]
 
-same_bools : (a b : Bool) → (a ≡ true → b ≡ true) → (b ≡ true → a ≡ true) → a ≡ b
-same_bools true b to back = sym (to refl)
-same_bools false true to back = back refl
-same_bools false false to back = refl
-
 all_three : (a b c : Bool) → a ≡ true → b ≡ true → c ≡ true → (a && b && c) ≡ true
 all_three a b c p q r = (λ i. p i && q i && r i)
-
-uncollected_is : {G : Type 0} (caller n : ℕ) (a : Ask G Ref) → is_uncollected caller n a ≡ true → (a.number ≡ n)
-uncollected_is caller n a is = same_from_test a.number n (both_right (is_of caller a) (nat_eq a.number n) (both_left (is_of caller a && nat_eq a.number n) (is_some a.delivered) is))
 
 module _ {C K : Type 0} (lib : Meanings C K) (arity : C → ℕ) (gone : ℕ) (control : Control C (Unit {0}) K) (middle : Middle arity gone control) (ran : Unfinished Ref K) (there : task_at control.graph gone ≡ Some ran)
     (own_ask : (n : ℕ) → ran.asked ≡ Some n → IsAskFor control.asks ran.caller n)
@@ -265,11 +258,11 @@ module _ {C K : Type 0} (lib : Meanings C K) (arity : C → ℕ) (gone : ℕ) (c
         never a asked number = none_not_some (ap (id_at control.names) (sym number) ∙ asked_free arity gone control middle ran there own_ask differ r live a.number asked) is
 
         go_back : (k : ℕ) (a b : Ask (Unit {0}) Ref) → map.get control.asks k ≡ Some a → IsAnswered ran.asked r a b → is_uncollected by q b ≡ true → list_any (is_uncollected by q) (map.values control.asks) ≡ true
-        go_back k a b at (Answered asked same) test = absurd (never a asked (sym (ap (λ (d : Ask (Unit {0}) Ref). d.number) same) ∙ uncollected_is by q b test))
+        go_back k a b at (Answered asked same) test = absurd (never a asked (sym (ap (λ (d : Ask (Unit {0}) Ref). d.number) same) ∙ uncollected_number by q b test))
         go_back k a b at (Stays none_asked same) test = any_from (is_uncollected by q) control.asks k a at (ap (is_uncollected by q) (sym same) ∙ test)
 
         go_on : (a b : Ask (Unit {0}) Ref) → IsAnswered ran.asked r a b → is_uncollected by q a ≡ true → is_uncollected by q b ≡ true
-        go_on a b (Answered asked same) test = absurd (never a asked (uncollected_is by q a test))
+        go_on a b (Answered asked same) test = absurd (never a asked (uncollected_number by q a test))
         go_on a b (Stays none_asked same) test = ap (is_uncollected by q) same ∙ test
 
     output_there : (q : ℕ) → ran.asked ≡ Some q → is_output asks_then q (ByCaller ran.caller) ≡ true

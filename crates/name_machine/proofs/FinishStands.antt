@@ -1,5 +1,5 @@
 -- A finish of a control state is the machine's finish, and leaves a state in order.
-use Rattle.std.proofs.Common.{◌≡◌, ℕ, suc, ◌+◌, ◌≤◌, true, false, List, [], ◌∷◌, map as each, slice_get, length, Option, None, Some, is_some, refl, sym, ap, subst, ◌∙◌, arith}
+use Rattle.std.proofs.Common.{◌≡◌, ℕ, ◌+◌, ◌≤◌, true, false, List, [], ◌∷◌, map as each, length, Option, None, Some, is_some, refl, sym, ap, subst, ◌∙◌}
 use Rattle.std.specs.Option.{option_map}
 use Rattle.std.specs.FinMap as map
 use Rattle.cht_ids.specs.declared.refs.Ref.{Ref}
@@ -17,7 +17,7 @@ use Rattle.task_types.specs.Meanings.{Meanings}
 use Rattle.task_types.specs.Reading.{reading, new_trees}
 use Rattle.task_types.specs.Sound.{IsSound as IsSoundOutcome}
 use Rattle.task_types.proofs.FormedTest.{both_left}
-use Rattle.name_states.specs.States.{NameState, IsLiveRef, AreLive}
+use Rattle.name_states.specs.States.{NameState}
 use Rattle.name_states.specs.Trees.{tree_of}
 use Rattle.name_states.proofs.Basics.{none_not_some, same_some}
 use Rattle.name_states.proofs.Within.{AreMore}
@@ -31,34 +31,27 @@ use Rattle.name_machine.specs.NewTasks.{drawn_by_chunks, drawn_by_tasks, task_nu
 use Rattle.name_machine.specs.Steps.{tree_known, input_trees, with_new, finished}
 use Rattle.name_machine.specs.Machine.{Finishes}
 use Rattle.name_machine.specs.Facts.{HoldsTogether}
-use Rattle.name_machine.specs.Control.{Control, Grown, ref_known, ref_named, tidied, with_chunks, with_new_tasks, resolved_to, without_task, finish_event, after_finish, effect_with}
+use Rattle.name_machine.specs.Control.{Control, Grown, ref_known, ref_named, tidied, resolved_to, without_task, finish_event, after_finish, effect_with}
 use Rattle.name_machine.specs.Replay.{Plans, is_planned, is_finish, is_allowed}
 use Rattle.name_machine.specs.Forgetting.{forgotten}
 use Rattle.name_machine.specs.Standing.{input_shown, task_shown, graph_shown, held_shown, ask_shown, machine_of, IsOrderly}
 use Rattle.name_machine.specs.Laws.{IsAsWanted}
 use Rattle.name_machine.proofs.Works.{chosen_from, chosen_to}
-use Rattle.name_machine.proofs.Added.{old_stays}
 use Rattle.name_machine.proofs.Invariant.{IsAskFor, facts as facts_of}
 use Rattle.name_machine.proofs.Runs.{ended, step_keeps}
 use Rattle.name_machine.proofs.WorkerParts.{runs_it}
 use Rattle.name_machine.proofs.Stand.{shown_at}
 use Rattle.name_machine.proofs.Orderly.{input_is_live, output_is_live}
-use Rattle.name_machine.proofs.FinishNamesRead.{place_read, near_if}
-use Rattle.name_machine.proofs.FinishMiddle.{Middle, middle_of}
-use Rattle.name_machine.proofs.FinishChunks.{good_chunk, all_near, ChunkStage, with_grown, all_chunks, chunks_draw}
-use Rattle.name_machine.proofs.FinishTasks.{value_ref, value_tree, good_kept, IsGood}
-use Rattle.name_machine.proofs.FinishAdded.{graph_alike, AllGood, TaskStage, all_tasks}
+use Rattle.name_machine.proofs.FinishChunks.{ChunkStage}
+use Rattle.name_machine.proofs.FinishTasks.{value_tree, IsGood}
+use Rattle.name_machine.proofs.FinishAdded.{graph_alike, TaskStage}
+use Rattle.name_machine.proofs.FinishStages as stages
 use Rattle.name_machine.proofs.FinishFacts.{keeps_of, ShowsAs, HeldOn, holdings_alike}
 use Rattle.name_machine.proofs.FinishShown.{settled_stands, settled_orderly, forwarded_stands, forwarded_orderly}
 
 -- ---- Inputs of a task that is run
 
 module _ {C : Type 0} (names : NameState C) where
-  known_live : (inputs : List (Input Ref)) → ((p : ℕ) (r : Ref) → slice_get inputs p ≡ Some (Known r) → IsLiveRef names r) → AreLive names (each ref_known inputs)
-  known_live [] live = tt
-  known_live (Known r ∷ inputs) live = (live 0 r refl, known_live inputs (λ p s is. live (suc p) s is))
-  known_live (Awaits task number ∷ inputs) live = (tt, known_live inputs (λ p s is. live (suc p) s is))
-
   known_read : (inputs : List (Input Ref)) → each (tree_of names) (each ref_known inputs) ≡ each tree_known (each (input_shown names) inputs)
   known_read [] = refl
   known_read (Known r ∷ inputs) = ap (λ rest. tree_of names r ∷ rest) (known_read inputs)
@@ -77,14 +70,11 @@ module _ {C K : Type 0} (lib : Meanings C K) (arity : C → ℕ) (control : Cont
   abbrev unfinished : Unfinished (Tree C) K
   unfinished = task_shown control.names ran
 
-  abbrev inputs : List Ref
-  inputs = each ref_known ran.inputs
-
   abbrev trees : List (Tree C)
   trees = input_trees unfinished
 
-  abbrev made : List (Tree C)
-  made = new_trees trees outcome
+  abbrev known : List Presence
+  known = each presence_of trees
 
   abbrev contents : List C
   contents = each (λ (chunk : NewChunk C). chunk.body) outcome.chunks
@@ -92,8 +82,8 @@ module _ {C K : Type 0} (lib : Meanings C K) (arity : C → ℕ) (control : Cont
   abbrev chunks : List Places
   chunks = each (λ (chunk : NewChunk C). chunk.children) outcome.chunks
 
-  abbrev known : List Presence
-  known = each presence_of trees
+  abbrev made : List (Tree C)
+  made = new_trees trees outcome
 
   machine_there : task_at before.graph gone ≡ Some unfinished
   machine_there = shown_at control.names control.graph gone ∙ ap (option_map (task_shown control.names)) there
@@ -101,76 +91,40 @@ module _ {C K : Type 0} (lib : Meanings C K) (arity : C → ℕ) (control : Cont
   numbered : (q : ℕ) (t : Unfinished Ref K) → task_at control.graph q ≡ Some t → q ≤ control.drawn
   numbered q t is = facts.numbered.tasks q (task_shown control.names t) (shown_at control.names control.graph q ∙ ap (option_map (task_shown control.names)) is)
 
-  start : Middle arity gone control
-  start = middle_of arity gone control orderly numbered (numbered gone ran there)
+  trees_are : each (tree_of control.names) (each ref_known ran.inputs) ≡ trees
+  trees_are = known_read control.names ran.inputs
 
-  -- ---- Chunks
+  -- ---- The stages
 
-  abbrev none_grown : Grown C
-  none_grown = record { names = control.names; drawn = control.drawn; chunks = [] }
+  abbrev inputs : List Ref
+  inputs = stages.inputs arity control orderly numbered gone ran there worker outcome known sound.formed trees trees_are
 
   abbrev grown : Grown C
-  grown = with_chunks control worker gone inputs contents chunks
-
-  chunk_start : ChunkStage arity gone control worker inputs trees none_grown []
-  chunk_start = record {
-    middle = start;
-    keeps = record { ids = λ q e is. is; bodies = λ q b is. is };
-    from = λ q entry caller is held. is;
-    live_inputs = known_live control.names ran.inputs (λ p r at. input_is_live arity control orderly gone p ran r there at);
-    read_inputs = known_read control.names ran.inputs;
-    live = tt;
-    read = refl;
-    up = omega arith;
-  }
-
-  chunk_stage : ChunkStage arity gone control worker inputs trees grown made
-  chunk_stage = all_chunks arity gone control worker inputs trees outcome.chunks none_grown [] chunk_start (λ i chunk at. good_chunk arity known i chunk (sound.formed.chunks_formed i chunk at))
-
-  drawn_grown : grown.drawn ≡ control.drawn + drawn_by_chunks chunks
-  drawn_grown = chunks_draw arity gone control worker inputs trees outcome.chunks none_grown
-
-  abbrev with_its_chunks : Control C (Unit {0}) K
-  with_its_chunks = with_grown arity gone control worker inputs trees grown
-
-  -- ---- Tasks
+  grown = stages.grown arity control orderly numbered gone ran there worker outcome known sound.formed trees trees_are
 
   abbrev numbers : List ℕ
-  numbers = task_numbers grown.drawn outcome.tasks
+  numbers = stages.numbers arity control orderly numbered gone ran there worker outcome known sound.formed trees trees_are
+
+  abbrev with_its_chunks : Control C (Unit {0}) K
+  with_its_chunks = stages.with_its_chunks arity control orderly numbered gone ran there worker outcome known sound.formed trees trees_are
 
   abbrev with_its_tasks : Control C (Unit {0}) K
-  with_its_tasks = with_new_tasks control ran.caller inputs outcome.tasks grown
+  with_its_tasks = stages.with_its_tasks arity control orderly numbered gone ran there worker outcome known sound.formed trees trees_are
 
-  -- what a place names once the chunks are there
-  good_place : (place : Place) → may_stand known (length outcome.chunks) (length outcome.tasks) place ≡ true → IsGood arity grown.names inputs grown.chunks trees made numbers grown.names place
-  good_place place may =
-      let one = place_read arity grown.names inputs grown.chunks chunk_stage.middle.sound chunk_stage.live_inputs chunk_stage.live place (near_if known (length outcome.chunks) (length outcome.tasks) place may) in
-      let given = chunk_stage.read_inputs in
-      let new = chunk_stage.read in
-      (one.0, one.1 ∙ (λ i. reading (given i) (new i) [] place))
+  chunk_stage : ChunkStage arity gone control worker inputs trees grown made
+  chunk_stage = stages.chunk_stage arity control orderly numbered gone ran there worker outcome known sound.formed trees trees_are
 
-  all_good : AllGood arity gone grown.names inputs grown.chunks trees made numbers ran.caller grown.names outcome.tasks
-  all_good i p task place is at =
-      let one = place_read arity grown.names inputs grown.chunks chunk_stage.middle.sound chunk_stage.live_inputs chunk_stage.live place
-      (all_near known (length outcome.chunks) i task.inputs (sound.formed.tasks_formed i task is) p place at) in
-      let given = chunk_stage.read_inputs in
-      let new = chunk_stage.read in
-      (one.0, one.1 ∙ (λ j. reading (given j) (new j) [] place))
+  drawn_grown : grown.drawn ≡ control.drawn + drawn_by_chunks chunks
+  drawn_grown = stages.drawn_grown arity control orderly numbered gone ran there worker outcome known sound.formed trees trees_are
 
   task_stage : TaskStage arity gone grown.names inputs grown.chunks trees made numbers ran.caller with_its_chunks with_its_tasks outcome.tasks
-  task_stage = all_tasks arity gone grown.names inputs grown.chunks trees made numbers ran.caller outcome.tasks with_its_chunks (grown.drawn + drawn_by_tasks outcome.tasks) chunk_stage.middle all_good refl
+  task_stage = stages.task_stage arity control orderly numbered gone ran there worker outcome known sound.formed trees trees_are
 
   more : AreMore control.names with_its_tasks.names
-  more = record {
-    ids = λ q e is. task_stage.keeps.ids q e (chunk_stage.keeps.ids q e is);
-    bodies = λ q b is. task_stage.keeps.bodies q b (chunk_stage.keeps.bodies q b is);
-  }
+  more = stages.more arity control orderly numbered gone ran there worker outcome known sound.formed trees trees_are
 
   still_there : task_at with_its_tasks.graph gone ≡ Some ran
-  still_there =
-      old_stays (value_ref arity grown.names inputs grown.chunks trees made numbers) numbers ran.caller grown.drawn outcome.tasks control.graph gone
-      (let low = numbered gone ran there in let up = chunk_stage.up in omega arith)
-      ∙ there
+  still_there = stages.still_there arity control orderly numbered gone ran there worker outcome known sound.formed trees trees_are
 
   -- ---- The machine's side
 
@@ -278,8 +232,7 @@ module _ {C K : Type 0} (lib : Meanings C K) (arity : C → ℕ) (control : Cont
   Both place = (machine_of lib (control_then place) ≡ machine_then place) × IsOrderly arity (control_then place)
 
   kept_good : (place : Place) → may_stand known (length outcome.chunks) (length outcome.tasks) place ≡ true → IsGood arity grown.names inputs grown.chunks trees made numbers with_its_tasks.names place
-  kept_good place may =
-      good_kept arity grown.names inputs grown.chunks trees made numbers grown.names with_its_tasks.names chunk_stage.middle.sound task_stage.keeps place (good_place place may)
+  kept_good place may = stages.kept_good arity control orderly numbered gone ran there worker outcome known sound.formed trees trees_are place may
 
   finish_at : (place : Place) → may_stand known (length outcome.chunks) (length outcome.tasks) place ≡ true → HoldsTogether lib (machine_then place) → Both place
   finish_at Null may holds = (

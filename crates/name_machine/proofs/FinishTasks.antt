@@ -13,7 +13,7 @@ use Rattle.name_states.specs.Trees.{tree_of}
 use Rattle.name_states.proofs.Basics.{none_not_some, none_or_some, same_some, same_or_not, inserted_here, inserted_other}
 use Rattle.name_states.proofs.Within.{AreMore, unnamed-next, within-more, live-kept}
 use Rattle.name_states.proofs.Trees.{tree-kept}
-use Rattle.task_states.specs.States.{Input, Known, Awaits, Unfinished, Graph, task_at, input_at}
+use Rattle.task_states.specs.States.{Input, Known, Awaits, Unfinished, Graph, input_at}
 use Rattle.task_states.specs.Steps.{added}
 use Rattle.name_machine.specs.Control.{with_number, ref_named, copy_of, input_copies}
 use Rattle.name_machine.specs.NewTasks.{taken, number_at, new_inputs}
@@ -57,15 +57,6 @@ module _ {C : Type 0} where
   grow_weaker before after P Q grow all = grow_twice before after after P Q Q grow (grow_none after Q) all (λ q entry is. is)
 
 module _ {X K : Type 0} where
-  -- an input that is there is that of a task that is there
-  pub input_task : (graph : Graph X K) (q p : ℕ) (x : Input X) → input_at graph q p ≡ Some x → (t : Unfinished X K) × (task_at graph q ≡ Some t) × (slice_get t.inputs p ≡ Some x)
-  input_task graph q p x is = go (task_at graph q) is refl
-    where
-      go : (o : Option (Unfinished X K)) → (elim o [ None ↦ None | Some task ↦ slice_get task.inputs p ]) ≡ Some x → task_at graph q ≡ o
-          → (t : Unfinished X K) × (task_at graph q ≡ Some t) × (slice_get t.inputs p ≡ Some x)
-      go None found at = absurd (none_not_some refl found)
-      go (Some t) found at = (t, at, found)
-
   abbrev input_in : ℕ → Option (Unfinished X K) → Option (Input X)
   input_in p o = elim o as (λ x. Option (Input X)) [ None ↦ None | Some task ↦ slice_get task.inputs p ]
 

@@ -34,6 +34,7 @@ pub mod AskStands
 pub mod AskOrdered
 pub mod Leaving
 pub mod FinishNames
+pub mod FinishNamesOrder
 pub mod FinishNamesRead
 pub mod FinishMiddle
 pub mod FinishChunks
@@ -44,6 +45,7 @@ pub mod FinishSettled
 pub mod FinishEnd
 pub mod FinishFacts
 pub mod FinishShown
+pub mod FinishStages
 pub mod FinishStands
 pub mod KeepsOrder
 pub mod FewerStand

@@ -3,7 +3,6 @@
 use Rattle.std.specs.Prelude.{◌≡◌, ℕ, true, false, List, [], ◌∷◌, Some}
 use Rattle.std.specs.FinMap as map
 use Rattle.cht_ids.specs.declared.refs.Id.{Id}
-use Rattle.cht_ids.specs.declared.refs.Ref.{Ref}
 use Rattle.cht_ids.specs.declared.refs.Ref.TheVariants.{Id as Held}
 use Rattle.task_types.specs.declared.outcome.Place.TheVariants.{Chunk}
 use Rattle.task_types.specs.declared.outcome.Places.{Places}
