@@ -1,3 +1,4 @@
+pub mod Awaited
 pub mod Changes
 pub mod Deliveries
 pub mod Listings
