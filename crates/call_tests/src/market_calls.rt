@@ -137,7 +137,7 @@ fn a_symmetric_block_is_read_in_its_own_form(rt: HostRuntime) -> Result<(), Fail
     };
     assert_eq!(rt; read.market.form, Form::Symmetric);
     assert_eq!(rt; read.lines, 8);
-    assert_eq!(rt; read.bytes, text.len() as u64 - 4);
+    assert_eq!(rt; read.bytes, 87);
     let first = read.market.entries.get(0).copied();
     assert_eq!(rt;
         first,
