@@ -1,3 +1,4 @@
 mod History
 mod Groups
 mod Whole
+pub mod Stays
