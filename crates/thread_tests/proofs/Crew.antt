@@ -1,5 +1,5 @@
 -- Ends of a group of deques go to workers, and back.
-use Rattle.std.proofs.Common.{◌≡◌, ℕ, zero, suc, ◌+◌, ◌<◌, List, [], ◌∷◌, ◌++◌, map, length, get_or, sym, refl, ap, ◌∙◌, subst, append_assoc, append-nil, length-append, arith}
+use Rattle.std.proofs.Common.{◌≡◌, ℕ, suc, ◌+◌, ◌<◌, List, [], ◌∷◌, ◌++◌, map, length, get_or, sym, refl, ap, ◌∙◌, subst, append_assoc, append-nil, length-append, arith}
 use Rattle.steal_deque.specs.declared.own.Own.{Own}
 use Rattle.steal_deque.specs.declared.thief.Thief.{Thief}
 use Rattle.steal_deque.specs.Ends.{SameOwn}

@@ -146,6 +146,10 @@ fn four_threads_account_for_all_numbers(rt: HostRuntime) -> Result<(), Fail> {
     let (all, left, short) = run(&rt, rt.alloc())?;
     assert!(rt; !short);
     assert_eq!(rt; (all.len(), left.numbers), (400_000, 0));
-    assert!(rt; all.iter().enumerate().all(|(place, number)| *number == place as u128));
+    assert!(rt;
+        all.iter()
+            .enumerate()
+            .all(|(place, number)| *number == place as u128)
+    );
     Ok(())
 }

@@ -1,4 +1,4 @@
-use Rattle.std.proofs.Common.{rules, ◌≡◌, [], ◌∷◌, ◌++◌, length, sym, ap, ◌∙◌}
+use Rattle.std.proofs.Common.{rules, ◌≡◌, [], ◌∷◌, ◌++◌, length, ap, ◌∙◌}
 use Rattle.steal_deque.specs.Groups.{AreAll, reach_of}
 use Rattle.thread_tests.specs.declared.deque_tests.Worker.{Worker}
 use Rattle.thread_tests.proofs.Crew

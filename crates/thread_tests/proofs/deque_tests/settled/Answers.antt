@@ -8,4 +8,4 @@ pub loop-worker-preserved : goal.loop-worker-preserved
 loop-worker-preserved c =
     let popped : c.loop-worker.workers.items ≡ c.pop.new.self.items ++ c.in-Some.worker ∷ [] = search rules in
     Crew.parts_one (λ (worker : Worker). worker.own) (λ (worker : Worker). worker.thief) (last_first (λ (worker : Worker). worker.own) c.args.workers.items) (last_first (λ (worker : Worker). worker.thief) c.args.workers.items)
-        c.loop-worker.owns.items c.push.new.self.items c.loop-worker.thieves.items c.push-in-Some.new.self.items c.loop-worker.workers.items c.pop.new.self.items c.in-Some.worker c.loop-worker.invariant popped c.in_ok-push.ensures.items c.in_ok-push-2.ensures.items
+    c.loop-worker.owns.items c.push.new.self.items c.loop-worker.thieves.items c.push-in-Some.new.self.items c.loop-worker.workers.items c.pop.new.self.items c.in-Some.worker c.loop-worker.invariant popped c.in_ok-push.ensures.items c.in_ok-push-2.ensures.items

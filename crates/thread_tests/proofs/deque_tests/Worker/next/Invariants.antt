@@ -1,4 +1,3 @@
-use Rattle.std.proofs.Common.{◌≡◌}
 use Rattle.steal_deque.specs.Ends.{SameOwn}
 use Rattle.steal_deque.specs.Groups.{SameThief}
 use Rattle.thread_tests.proofs.deque_tests.Worker.next.Given as goal
