@@ -25,11 +25,29 @@ def best_run(command, source, target):
     return best, peak
 
 
-def compiled(folder, compiler, source):
-    """The program of bench/SOURCE, built with that compiler into the folder."""
+def compiled(folder, compiler, source, *flags):
+    """The program of bench/SOURCE, built with that compiler and these flags into the folder."""
     program = os.path.join(folder, "plain")
-    subprocess.run([compiler, "-O3", "-o", program, os.path.join(TOP, "bench", source)], check=True)
+    subprocess.run([compiler, "-O3", *flags, "-o", program, os.path.join(TOP, "bench", source)], check=True)
     return program
+
+
+def in_turn(programs, same):
+    """Runs programs five times in turn. Each writes the same lines of numbers: the first `same` numbers of a line have to be the
+    same in all, and the others are times. By the first numbers, the least times of each program."""
+    least = {}
+    for _ in range(5):
+        texts = [subprocess.run([program], stdout=subprocess.PIPE, check=True, text=True).stdout for program in programs]
+        rows = [[line.split() for line in text.splitlines()] for text in texts]
+        for lines in zip(*rows, strict=True):
+            heads = {tuple(line[:same]) for line in lines}
+            if len(heads) != 1:
+                sys.exit(f"the programs write different numbers: {lines}")
+            times = [[int(word) for word in line[same:]] for line in lines]
+            known = least.setdefault(heads.pop(), times)
+            for old, new in zip(known, times):
+                old[:] = [min(pair) for pair in zip(old, new)]
+    return least
 
 
 def compared(folder, plain, source, name):

@@ -5,6 +5,7 @@ use crate::{Parted, View};
 use atomic_table::Table;
 use std::alloc::Global;
 use std::snapshot::Snapshot;
+use std::sync::atomic::AtomicU64;
 
 // What the word says: the value is at home, or one seat has a turn.
 pub(crate) const FREE: u64 = 0;
@@ -16,6 +17,8 @@ pub(crate) const TAKEN: u64 = 1;
 pub struct SeatLock<V: Parted> {
     pub(crate) table: Table<Option<V>, View<V, V::Part>, Snapshot<V>, Turns, Global>,
     pub(crate) seats: u32,
+    // How many seats wait for a turn, so that the end of a turn asks the system to wake one only where there is one.
+    pub(crate) waiting: AtomicU64,
     ghost shaped: { (table.shared.table_id.words ≡ 1) × (table.shared.table_id.slots ≡ 1) },
     ghost seated: { 1 ≤ seats },
 }

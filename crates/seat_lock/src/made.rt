@@ -9,6 +9,7 @@ use atomic_table::Table;
 use cht_ids::{List, Memory};
 use std::alloc::Global;
 use std::snapshot::Snapshot;
+use std::sync::atomic::AtomicU64;
 
 impl<V: Parted + Drop> SeatLock<V> {
     /// A lock over a value with as many parts as there are seats, and its seats by number from 0. Each remembers its
@@ -41,7 +42,15 @@ impl<V: Parted + Drop> SeatLock<V> {
         let Ok((table, first)) = Table::new(alloc, &[FREE], slots, &opened) else {
             return Err(Memory);
         };
-        Ok((SeatLock { table, seats }, first))
+        let waiting = AtomicU64::new(0);
+        Ok((
+            SeatLock {
+                table,
+                seats,
+                waiting,
+            },
+            first,
+        ))
     }
 
     // Gives each entry a seat of its own. The first seat is then left without one.

@@ -5,6 +5,7 @@ use crate::lock::{FREE, TAKEN};
 use crate::rule::{Claim, Release};
 use crate::{Parted, Seat, SeatLock, Turn};
 use std::sync::Wait;
+use std::sync::atomic::Ordering;
 
 impl<V: Parted> SeatLock<V> {
     /// Begins a turn of the seat, and waits while another seat has one. The value's part for the seat is as the seat
@@ -37,8 +38,16 @@ impl<V: Parted> SeatLock<V> {
             if self.try_claim(seat) {
                 break;
             }
-            self.table.shared.park(rt, 0, TAKEN as u32);
+            self.wait(rt);
         }
+    }
+
+    // Waits until the word may be 0 again. The count rises before the word is looked at once more, and the end of a turn
+    // looks at the count after it has set the word to 0: so either sees the other.
+    fn wait<R: Wait>(&self, rt: &R) {
+        self.waiting.fetch_add(1, Ordering::SeqCst);
+        self.table.shared.park(rt, 0, TAKEN as u32);
+        self.waiting.fetch_sub(1, Ordering::SeqCst);
     }
 
     // Takes the word from 0 to 1 where it is 0.
@@ -73,6 +82,13 @@ impl<V: Parted> SeatLock<V> {
         let absent = self.table.shared.exchange(&mut seat.pass, 0, Some(value));
         let None = absent else { unreachable!() };
         self.table.shared.swap::<Release>(&mut seat.pass, 0, FREE);
-        self.table.shared.wake_one(0);
+        self.wake();
+    }
+
+    // Wakes one of those that wait, where there is one.
+    fn wake(&self) {
+        if self.waiting.load(Ordering::SeqCst) > 0 {
+            self.table.shared.wake_one(0);
+        }
     }
 }

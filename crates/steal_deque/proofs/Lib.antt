@@ -1,2 +1,4 @@
 mod History
 mod Groups
+mod Whole
+pub mod Stays

@@ -1,11 +1,12 @@
 -- The deques of a group: what a thief reaches, and what the owners know at the end.
 use Rattle.std.specs.Prelude.{◌≡◌, ℕ, ◌+◌, false, replicate, List, [], ◌∷◌, map, length, slice_get, slice_index_or, Some}
+use Rattle.std.specs.List.{flat_map}
 use Rattle.steal_deque.specs.declared.rule.View.{View}
 use Rattle.steal_deque.specs.declared.own.Own.{Own}
 use Rattle.steal_deque.specs.declared.victim.Victim.{Victim}
 use Rattle.steal_deque.specs.declared.thief.Thief.{Thief}
 use Rattle.steal_deque.specs.History.{spent, joined_with, newcomer, Settles}
-use Rattle.steal_deque.specs.Ends.{own_view, own_deque, victim_view, victim_deque, Deque}
+use Rattle.steal_deque.specs.Ends.{own_view, own_deque, victim_view, victim_deque, Deque, exposed_by, taken_by}
 
 -- what a thief knows of each deque, by worker
 abbrev pub views_of : Thief → List View
@@ -29,6 +30,22 @@ view_at thief worker = slice_index_or (views_of thief) worker spent
 -- what a thief took from the deque of one worker, in order
 abbrev pub stolen_from : Thief → ℕ → List ℕ
 stolen_from thief worker = (view_at thief worker).taken
+
+-- what a thief took from all deques
+abbrev pub stolen_by : Thief → List ℕ
+stolen_by thief = flat_map (λ view. view.taken) (views_of thief)
+
+-- all numbers that these owners exposed
+abbrev pub all_exposed : List Own → List ℕ
+all_exposed owns = flat_map exposed_by owns
+
+-- all numbers that these owners took back
+abbrev pub all_taken : List Own → List ℕ
+all_taken owns = flat_map taken_by owns
+
+-- all numbers that these thieves stole
+abbrev pub all_stolen : List Thief → List ℕ
+all_stolen thieves = flat_map stolen_by thieves
 
 -- it is the same thief, with the same deques
 abbrev pub SameThief : Thief → Thief → Type 0

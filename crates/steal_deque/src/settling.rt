@@ -1,6 +1,6 @@
-ghost use Rattle.std.specs.Prelude.{◌≡◌, ◌^◌, ◌-◌, min, map, List, ℕ};
+ghost use Rattle.std.specs.Prelude.{◌≡◌, ◌^◌, ◌-◌, ◌++◌, min, map, length, List, ℕ, IsPermutation};
 ghost use Rattle.steal_deque.specs.Ends.{own_view, own_deque};
-ghost use Rattle.steal_deque.specs.Groups.{views_of, Reaches, AreAll, returned_all, returned_by, AllSettle, total};
+ghost use Rattle.steal_deque.specs.Groups.{views_of, Reaches, AreAll, all_taken, all_stolen, all_exposed, returned_all, returned_by, AllSettle, total};
 
 use crate::{Own, Thief};
 use cht_ids::List;
@@ -12,10 +12,13 @@ pub struct Left {
     pub numbers: u64,
 }
 
-/// Ends a group of deques. What each pass took, with what is left, is what was exposed, in the order of the steals.
+/// Ends a group of deques. All that was taken and stolen, with what is left, is all that was exposed: no number is lost, and
+/// none comes twice. Of each deque by itself: what was stolen from it, in one order of all its steals, and then what is left is
+/// what its owner exposed and did not take back, oldest first.
 pub fn settle(owns: List<Own>, thieves: List<Thief>) -> Left
     requires { AreAll owns thieves }
-    ensures { (lefts : List (List ℕ)) × AllSettle (returned_by (map own_view owns) (map views_of thieves)) lefts × (result.numbers ≡ min (total lefts) (2 ^ 64 - 1)) }
+    ensures whole { (left : List ℕ) × IsPermutation (all_taken owns ++ all_stolen thieves ++ left) (all_exposed owns) × (result.numbers ≡ min (length left) (2 ^ 64 - 1)) }
+    ensures orders { (lefts : List (List ℕ)) × AllSettle (returned_by (map own_view owns) (map views_of thieves)) lefts × (result.numbers ≡ min (total lefts) (2 ^ 64 - 1)) }
 {
     let mut owns = owns.into_vec();
     let mut thieves = thieves.into_vec();

@@ -1,1 +1,2 @@
 mod TwoSeats
+mod Crew

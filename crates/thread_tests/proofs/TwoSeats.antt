@@ -1,9 +1,9 @@
 -- A lock with two seats.
-use Rattle.std.proofs.Common.{◌≡◌, ℕ, zero, suc, ◌+◌, ◌<◌, List, [], ◌∷◌, ◌++◌, map, length, slice_get, Option, None, Some, refl, sym, ap, ◌∙◌, subst, arith, length-append}
+use Rattle.std.proofs.Common.{◌≡◌, ℕ, zero, suc, ◌+◌, List, [], ◌∷◌, ◌++◌, length, slice_get, None, sym, ap, ◌∙◌, arith, length-append}
 use Rattle.std.proofs.lemmas.List.Elements.{All-nil, All-cons}
 use Rattle.seat_lock.specs.declared.seat.Seat.{Seat}
 use Rattle.seat_lock.specs.declared.lock.SeatLock.{SeatLock}
-use Rattle.seat_lock.specs.Seats.{IsSeatOf, IsFresh, AreSeated, AreAllSeats, number_of, turn_of, seats_of}
+use Rattle.seat_lock.specs.Seats.{IsSeatOf, AreSeated, AreAllSeats, number_of, turn_of, seats_of}
 
 module _ {V P : Type 0} where
   abbrev pub Rests : SeatLock V P → ℕ → Seat V P → Type 0

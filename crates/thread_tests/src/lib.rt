@@ -2,6 +2,8 @@
 #![tactic(auto)]
 
 #[cfg(test)]
+mod deque_tests;
+#[cfg(test)]
 mod gate_tests;
 #[cfg(test)]
 mod lock_tests;

@@ -1,5 +1,4 @@
-use Rattle.std.proofs.Common.{rules, ◌≡◌, ◌++◌, ◌∷◌, [], subst, sym, arith, ap, ◌∙◌}
-use Rattle.seat_lock.specs.Seats.{AreAllSeats}
+use Rattle.std.proofs.Common.{◌≡◌, ◌++◌, ◌∷◌, [], sym, arith, ap, ◌∙◌}
 use Rattle.thread_tests.proofs.TwoSeats
 use Rattle.thread_tests.proofs.lock_tests.count.Goals as goal
 
