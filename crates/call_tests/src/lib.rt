@@ -1,5 +1,5 @@
-//! Tests of the public calls of the crates below, one file for each: each call once on its happy path, with memory enough, each
-//! generic one at a concrete type, and what devices that fail leave. Scripts whose text goes in and out stand in examples/rows.
+//! Tests of the public calls of the lower crates, one file for each: each call once on its happy path, with memory enough, each
+//! generic one at a concrete type, and what devices that fail leave.
 #![tactic(auto)]
 
 #[cfg(test)]
@@ -19,15 +19,7 @@ mod load_calls;
 #[cfg(test)]
 mod market_calls;
 #[cfg(test)]
-mod matrix_kinds;
-#[cfg(test)]
 mod name_state_calls;
-#[cfg(test)]
-mod quad_trees;
-#[cfg(test)]
-mod run_calls;
-#[cfg(test)]
-mod script_calls;
 #[cfg(test)]
 mod store_calls;
 #[cfg(test)]

@@ -32,7 +32,7 @@ use Rattle.quad_matrix.proofs.ForOthers.{tree_peak, peak_of_tree}
 use Rattle.quad_matrix.proofs.ForOthers.{fits_join}
 use Rattle.quad_matrix.proofs.ForOthers.{nothing_is_number, number_some}
 use Rattle.matrix_tasks.specs.Answers.{is_general, peak_shown, greatest_peak}
-use Rattle.call_tests.specs.MatrixInputs.{ShowsBlock, ShowsNumber, shows_some, is_product, over}
+use Rattle.matrix_tests.specs.MatrixInputs.{ShowsBlock, ShowsNumber, shows_some, is_product, over}
 use Rattle.task_plans.proofs.ForOthers.{true_or_false}
 
 -- the peak that a tree shows

@@ -1,7 +1,7 @@
 use Rattle.std.proofs.Common.{arith}
 use Rattle.std.proofs.lemmas.Result.{IfOk-weaker}
-use Rattle.call_tests.proofs.MatrixInputs.{over_shows}
-use Rattle.call_tests.proofs.matrix_kinds.square.Goals as goal
+use Rattle.matrix_tests.proofs.MatrixInputs.{over_shows}
+use Rattle.matrix_tests.proofs.matrix_kinds.square.Goals as goal
 
 pub returns : goal.returns
 returns c =

@@ -2,8 +2,8 @@ use Rattle.std.proofs.Common.{refl, sym, ap, ◌∙◌, subst, ◌++◌, List, f
 use Rattle.task_types.specs.declared.inputs.View.TheVariants as view
 use Rattle.chunk_codec.specs.declared.plain.Spot.{Spot}
 use Rattle.chunk_codec.specs.Spots.{AreSoundSpots}
-use Rattle.call_tests.proofs.MatrixInputs.{assign_has_goal}
-use Rattle.call_tests.proofs.matrix_kinds.assign.Goals as goal
+use Rattle.matrix_tests.proofs.MatrixInputs.{assign_has_goal}
+use Rattle.matrix_tests.proofs.matrix_kinds.assign.Goals as goal
 
 pub run_general-requires-clause-defined : goal.run_general-requires-clause-defined
 run_general-requires-clause-defined c =

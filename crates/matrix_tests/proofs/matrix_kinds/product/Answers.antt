@@ -1,7 +1,7 @@
 use Rattle.std.proofs.Common.{refl}
 use Rattle.task_types.specs.declared.inputs.View.TheVariants as view
-use Rattle.call_tests.proofs.MatrixInputs.{product_has_goal, is_served}
-use Rattle.call_tests.proofs.matrix_kinds.product.Goals as goal
+use Rattle.matrix_tests.proofs.MatrixInputs.{product_has_goal, is_served}
+use Rattle.matrix_tests.proofs.matrix_kinds.product.Goals as goal
 
 pub run_general-requires-clause-serves : goal.run_general-requires-clause-serves
 run_general-requires-clause-serves c = is_served c.args.what

@@ -1,7 +1,7 @@
 use Rattle.std.proofs.Common.{ap}
 use Rattle.task_types.specs.declared.inputs.View.TheVariants as view
-use Rattle.call_tests.proofs.MatrixInputs.{leaf_shows}
-use Rattle.call_tests.proofs.matrix_kinds.shown_leaf.Goals as goal
+use Rattle.matrix_tests.proofs.MatrixInputs.{leaf_shows}
+use Rattle.matrix_tests.proofs.matrix_kinds.shown_leaf.Goals as goal
 
 pub returns : goal.returns
 returns c =

@@ -1,6 +1,6 @@
 use Rattle.std.proofs.Common.{arith, refl, ◌+◌}
-use Rattle.call_tests.proofs.MatrixInputs.{join_has_goal}
-use Rattle.call_tests.proofs.matrix_kinds.join.Goals as goal
+use Rattle.matrix_tests.proofs.MatrixInputs.{join_has_goal}
+use Rattle.matrix_tests.proofs.matrix_kinds.join.Goals as goal
 
 pub run_general-requires-clause-defined : goal.run_general-requires-clause-defined
 run_general-requires-clause-defined c =

@@ -2,7 +2,7 @@ ghost use Rattle.std.specs.Prelude.{◌≡◌, ◌+◌, ◌≤◌, false, IsTrue
 ghost use Rattle.task_types.specs.Shown.{mask};
 ghost use Rattle.chunk_codec.specs.Spots.{AreSoundSpots};
 ghost use Rattle.matrix_tasks.specs.Answers.{peak_shown, greatest_peak};
-ghost use Rattle.call_tests.specs.MatrixInputs.{ShowsBlock, ShowsNumber, is_product, over};
+ghost use Rattle.matrix_tests.specs.MatrixInputs.{ShowsBlock, ShowsNumber, is_product, over};
 
 use cht_ids::{List, Memory};
 use leaf_blocks::Leaf;

@@ -1,7 +1,7 @@
 use Rattle.std.proofs.Common.{refl}
 use Rattle.task_types.specs.declared.inputs.View.TheVariants as view
-use Rattle.call_tests.proofs.MatrixInputs.{sum_has_goal}
-use Rattle.call_tests.proofs.matrix_kinds.sum.Goals as goal
+use Rattle.matrix_tests.proofs.MatrixInputs.{sum_has_goal}
+use Rattle.matrix_tests.proofs.matrix_kinds.sum.Goals as goal
 
 pub run_general-requires-clause-defined : goal.run_general-requires-clause-defined
 run_general-requires-clause-defined c =
