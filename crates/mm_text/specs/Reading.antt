@@ -1,5 +1,6 @@
 -- What a read of a block answers: the block of the definition, or its fault.
 use Rattle.std.specs.Prelude.{◌≡◌, ℕ, ◌≤◌, List, length, drop, Result, Ok, Err}
+use Rattle.mm_text.specs.declared.market.Form.TheVariants.{Symmetric}
 use Rattle.mm_text.specs.declared.market.Market.{Market}
 use Rattle.mm_text.specs.declared.market.MarketFault.{MarketFault}
 use Rattle.mm_text.specs.declared.market.MarketRead.{MarketRead}
@@ -33,4 +34,5 @@ IsBlockRefused grid text (refusals.Fault fault) = block_in grid (lines_of text) 
 
 -- (of the body before; goes away)
 abbrev pub HasNoBlock : Result Block MarketFault → Type 0
-HasNoBlock found = Unit {0}
+HasNoBlock (Err fault) = Unit {0}
+HasNoBlock (Ok block) = block.form ≡ Symmetric
