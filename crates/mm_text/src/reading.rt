@@ -18,6 +18,6 @@ pub fn read_market(alloc: Global, bytes: &[u8], grid: u32) -> Result<MarketRead,
     ensures found { IfOk result (λ read. IsBlockRead grid bytes.now read) }
     ensures fault { IfErr result (λ refused. IsBlockRefused grid bytes.now refused) }
 {
-    let _ = (alloc, bytes, grid);
+    let _ = (alloc, bytes.len(), grid);
     Err(MarketRefused::Memory)
 }
