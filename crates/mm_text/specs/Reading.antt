@@ -1,6 +1,6 @@
--- What a read of a block answers: the block of the definition, or the one fault where there is none in the general form.
+-- What a read of a block answers: the block of the definition, or its fault.
 use Rattle.std.specs.Prelude.{◌≡◌, ℕ, ◌≤◌, List, length, drop, Result, Ok, Err}
-use Rattle.mm_text.specs.declared.market.Form.TheVariants.{General, Symmetric}
+use Rattle.mm_text.specs.declared.market.Form.TheVariants.{Symmetric}
 use Rattle.mm_text.specs.declared.market.Market.{Market}
 use Rattle.mm_text.specs.declared.market.MarketFault.{MarketFault}
 use Rattle.mm_text.specs.declared.market.MarketRead.{MarketRead}
@@ -17,25 +17,22 @@ pub record IsMarketOf (block : Block) (market : Market) : Type 0 where
   pub columns : market.columns ≡ block.sizes.columns
   pub entries : entry_cells market.entries ≡ cells_listed block.form (matrix_of block)
 
--- The text begins with a block in the general form, and this is what was read of it: its matrix, how many lines it takes,
--- and how many bytes these lines take. What stands behind these bytes are the other lines.
+-- The text begins with a block, and this is what was read of it: its matrix in the form of the text, how many lines it
+-- takes, and how many bytes these lines take. What stands behind these bytes are the other lines.
 pub record IsBlockRead (grid : ℕ) (text : List ℕ) (read : MarketRead) : Type 0 where
   pub block : Block
   pub found : block_in grid (lines_of text) ≡ Ok block
-  pub general : block.form ≡ General
   pub market : IsMarketOf block read.market
   pub lines : read.lines ≡ block.lines
   pub within : read.bytes ≤ length text
   pub behind : cut_lines (drop read.bytes text) ≡ drop read.lines (cut_lines text)
 
--- where a block was looked for, there is none in the general form
+-- a refusal of the text: the fault of the definition, or want of memory
+abbrev pub IsBlockRefused : ℕ → List ℕ → MarketRefused → Type 0
+IsBlockRefused grid text refusals.Memory = Unit {0}
+IsBlockRefused grid text (refusals.Fault fault) = block_in grid (lines_of text) ≡ Err fault
+
+-- (of the body before; goes away)
 abbrev pub HasNoBlock : Result Block MarketFault → Type 0
 HasNoBlock (Err fault) = Unit {0}
 HasNoBlock (Ok block) = block.form ≡ Symmetric
-
--- a refusal of the text: the fault of line 0 and code 20, where no block in the general form stands at its front, or want of
--- memory
-abbrev pub IsBlockRefused : ℕ → List ℕ → MarketRefused → Type 0
-IsBlockRefused grid text refusals.Memory = Unit {0}
-IsBlockRefused grid text (refusals.Fault fault) =
-    (fault ≡ record { line = 0; code = 20 }) × HasNoBlock (block_in grid (lines_of text))
