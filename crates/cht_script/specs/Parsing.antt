@@ -1,6 +1,6 @@
 -- What is read of a text before the names in it are judged: its statements up to the first line that breaks a rule on lines. These
 -- rules have the codes 1 to 13, and know nothing of what names mean.
-use Rattle.std.specs.Prelude.{◌≡◌, ℕ, ◌^◌, ◌≤◌, not, nat_le, is_none, if◌then◌else◌, List, [], ◌∷◌, length, map, Option, None, Some, option_map, option_and_then, Result, Ok, Err}
+use Rattle.std.specs.Prelude.{◌≡◌, ℕ, ◌^◌, ◌≤◌, Bool, true, not, nat_le, is_none, if◌then◌else◌, List, [], ◌∷◌, length, map, Option, None, Some, option_map, option_and_then, Result, Ok, Err}
 use Rattle.std.specs.List.{flat_map}
 use Rattle.mm_text.specs.Lines.{words_of, is_text}
 use Rattle.mm_text.specs.Faults.{first_code}

@@ -24,16 +24,19 @@ pub const MOST_BYTES: usize = 1 << 26;
 pub fn parse(alloc: Global, bytes: &[u8]) -> Result<Script, Memory>
     ensures { IfOk result (IsParsed bytes.now) }
 {
-    let _ = (alloc, bytes);
+    let _ = alloc;
+    if bytes.len() > MOST_BYTES {
+        return Err(Memory);
+    }
     Err(Memory)
 }
 
 /// Judges the names of a script, which is what `parse` gave for some text. The first line that breaks a rule is the fault, with
 /// the least code that is broken there.
 pub fn check(alloc: Global, script: Script) -> Result<Checked, ScriptRefused>
-    requires { IsParsedOfSome script.entry }
-    ensures fault { IsFaultOf script.entry result }
-    ensures verdict { IsJudgedAsRead script.entry result }
+    requires { IsParsedOfSome script }
+    ensures fault { IsFaultOf script result }
+    ensures verdict { IsJudgedAsRead script result }
 {
     let _ = (alloc, script);
     Err(ScriptRefused::Memory)
@@ -44,7 +47,9 @@ pub fn check(alloc: Global, script: Script) -> Result<Checked, ScriptRefused>
 pub fn not_run_yet(checked: &Checked) -> Option<Fault>
     ensures { result ≡ not_run_in (map deed_in checked.now.steps) }
 {
-    for step in checked.steps.as_slice() {
+    let mut left = checked.steps.as_slice();
+    while let [step, behind @ ..] = left {
+        left = behind;
         if !step.statement.is_run() {
             return Some(Fault {
                 line: step.statement.line(),

@@ -81,17 +81,9 @@ pub struct Names {
 #[derive(Drop)]
 pub enum Statement {
     /// Binds a name to a matrix that the script lists.
-    Market {
-        line: u64,
-        to: Name,
-        market: Market,
-    },
+    Market { line: u64, to: Name, market: Market },
     /// Any other statement.
-    Act {
-        line: u64,
-        verb: Verb,
-        names: Names,
-    },
+    Act { line: u64, verb: Verb, names: Names },
 }
 
 impl Statement {

@@ -232,12 +232,6 @@ no_block-repeated end sizes n lines es h repeats =
     let same : k.entries ≡ es = let e : Some k.entries ≡ Some es = sym k.given ∙ p.1 in cc in
     absurd (true≢false (sym k.apart ∙ ap have_no_repeats same ∙ repeats)))
 
--- a refusal of the entries is one of the text
-pub refused_entries : (grid : ℕ) (text : List ℕ) (sizes : Sizes) (n : ℕ) (behind : List (ℕ × List ℕ)) (refused : MarketRefused) → IsHead grid (lines_of text) sizes n behind
-    → IsRefusalOf (entries_in sizes (filled behind)) refused → IsBlockRefused grid text refused
-refused_entries grid text sizes n behind Memory head h = tt
-refused_entries grid text sizes n behind (Fault fault) (end, is) h = (h.0, rw is (no_block-missing end sizes n (filled behind) h.1))
-
 -- and so is one of entries that repeat a place
 pub refused_repeats : (grid : ℕ) (text : List ℕ) (sizes : Sizes) (n : ℕ) (behind : List (ℕ × List ℕ)) (es : List Entry) → IsHead grid (lines_of text) sizes n behind
     → entries_in sizes (filled behind) ≡ Some es → have_no_repeats es ≡ false → HasNoBlock (block_in grid (lines_of text))
