@@ -1,0 +1,7 @@
+pub mod Verbs
+pub mod Headings
+pub mod Cells
+pub mod BlockParts
+pub mod BlockTaken
+pub mod Taken
+pub mod Whole
