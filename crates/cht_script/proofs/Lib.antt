@@ -5,3 +5,5 @@ pub mod BlockParts
 pub mod BlockTaken
 pub mod Taken
 pub mod Whole
+pub mod Known
+pub mod NameRules

@@ -11,3 +11,4 @@ pub mod Parsing
 pub mod Checking
 pub mod Steps
 pub mod Progress
+pub mod Judging

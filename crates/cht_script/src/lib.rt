@@ -11,6 +11,8 @@ ghost use Rattle.cht_script.specs.Steps.{heading_told};
 
 mod checked;
 mod heading;
+mod judge;
+mod names;
 mod reader;
 mod script;
 mod statement;
@@ -18,7 +20,8 @@ mod words;
 
 pub use checked::{Checked, ScriptRefused, Shape, Shapes, Step};
 use cht_ids::{List, Memory};
-use heading::{Heading, read_heading};
+use heading::{Heading, height, read_heading};
+use judge::{join, judge_all};
 use reader::{Reading, read_statements};
 pub use script::{Begun, Fault, Name, Names, Script, Statement, Verb};
 use std::alloc::Global;
@@ -79,8 +82,24 @@ pub fn check(alloc: Global, script: Script) -> Result<Checked, ScriptRefused>
     ensures fault { IsFaultOf script result }
     ensures verdict { IsJudgedAsRead script result }
 {
-    let _ = (alloc, script);
-    Err(ScriptRefused::Memory)
+    let Script {
+        grid,
+        leaf,
+        statements,
+        begun,
+        stop,
+    } = script;
+    let shapes = judge_all(alloc, statements.as_slice(), begun)?;
+    if let Some(fault) = stop {
+        return Err(ScriptRefused::Fault(fault));
+    }
+    let steps = join(alloc, statements, shapes.as_slice())?;
+    Ok(Checked {
+        grid,
+        leaf,
+        height: height(grid, leaf),
+        steps,
+    })
 }
 
 /// The first statement that is not run yet: a matrix in the symmetric form, or one of the products, squares and full forms. Its
