@@ -7,3 +7,4 @@ pub mod Taken
 pub mod Whole
 pub mod Known
 pub mod NameRules
+pub mod Noted

@@ -16,6 +16,7 @@ use Rattle.cht_script.specs.declared.script.Begun.{Begun}
 use Rattle.cht_script.specs.declared.script.Statement as statement
 use Rattle.cht_script.specs.declared.script.Statement.TheVariants as statements
 use Rattle.cht_script.specs.declared.script.Verb.{Verb}
+use Rattle.cht_script.specs.declared.script.Verb.TheVariants.{Copy, Add, Mul, TMul, MulT, Square, Full, Trace, Count, Print, Delete}
 use Rattle.cht_script.specs.Newest.{newest}
 use Rattle.cht_script.specs.Statements.{Said, new_names, names_after, general, shapes_fit, forms_fit}
 use Rattle.cht_script.specs.Verdict.{NamedShape, with_shape, has_name, is_known, bound_said, is_among, name_rules}
@@ -92,6 +93,20 @@ abbrev pub Notes : KnownNames → KnownNames → Deed → Shapes → Type 0
 Notes old new deed shapes =
     (known : List NamedShape) (deleted : List (List ℕ)) → Keeps known deleted old → IsShapedAs known deleted (shape_listed deed) (said_by deed) shapes
     → Keeps (known_behind known deed) (deleted_behind deleted deed) new
+
+-- whether a statement with a verb deletes its name
+abbrev pub deletes : Verb → Bool
+deletes Copy = false
+deletes Add = false
+deletes Mul = false
+deletes TMul = false
+deletes MulT = false
+deletes Square = false
+deletes Full = false
+deletes Trace = false
+deletes Count = false
+deletes Print = false
+deletes Delete = true
 
 -- a statement with a verb has as many names as belong to it
 abbrev pub HasItsNames : statement.Statement → Type 0

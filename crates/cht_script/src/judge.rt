@@ -2,7 +2,7 @@ ghost use Rattle.std.specs.Prelude.{◌≡◌, List, ℕ, [], ◌∷◌, length,
 ghost use Rattle.cht_script.specs.Statements.{Market as Lists, Act, shapes_fit, forms_fit, shape_bound, binds, names_after, general};
 ghost use Rattle.cht_script.specs.Verdict.{NamedShape};
 ghost use Rattle.cht_script.specs.Reading.{name_bytes, names_of, deed_of};
-ghost use Rattle.cht_script.specs.Judging.{Keeps, JudgesInputs, JudgesSaid, Judges, Notes, Goes, HasItsNames, HaveTheirNames, JudgesAll, steps_of};
+ghost use Rattle.cht_script.specs.Judging.{Keeps, JudgesInputs, JudgesSaid, Judges, Notes, Goes, HasItsNames, HaveTheirNames, deletes, JudgesAll, steps_of};
 
 use crate::checked::{ScriptRefused, Shape, Shapes, Step};
 use crate::names::{Kept, KnownNames};
@@ -25,6 +25,25 @@ impl Verb {
             | Verb::Square
             | Verb::Full => true,
             Verb::Trace | Verb::Count | Verb::Print | Verb::Delete => false,
+        }
+    }
+
+    // Whether a statement with this verb deletes its name.
+    fn deletes(self) -> bool
+        ensures { result ≡ deletes self }
+    {
+        match self {
+            Verb::Delete => true,
+            Verb::Copy
+            | Verb::Add
+            | Verb::Mul
+            | Verb::TMul
+            | Verb::MulT
+            | Verb::Square
+            | Verb::Full
+            | Verb::Trace
+            | Verb::Count
+            | Verb::Print => false,
         }
     }
 
@@ -222,23 +241,19 @@ fn note<'a>(
     };
     match statement {
         Statement::Market { to, .. } => known.keep(to.as_bytes(), kept),
-        Statement::Act { verb, names, .. } => match verb {
-            Verb::Copy
-            | Verb::Add
-            | Verb::Mul
-            | Verb::TMul
-            | Verb::MulT
-            | Verb::Square
-            | Verb::Full => known.keep(names.first.as_bytes(), kept),
-            Verb::Trace | Verb::Count | Verb::Print => Ok(()),
-            Verb::Delete => known.keep(
-                names.first.as_bytes(),
-                Kept {
+        Statement::Act { verb, names, .. } => {
+            if verb.binds() {
+                return known.keep(names.first.as_bytes(), kept);
+            }
+            if verb.deletes() {
+                let kept = Kept {
                     shape: shapes.first,
                     is_deleted: true,
-                },
-            ),
-        },
+                };
+                return known.keep(names.first.as_bytes(), kept);
+            }
+            Ok(())
+        }
     }
 }
 
@@ -274,7 +289,7 @@ pub(crate) fn judge_all(
     let mut known = KnownNames::new(alloc);
     let mut shapes = List::new(alloc);
     let mut left = statements;
-    while let [statement, behind @ ..] = left {
+    while let Some((statement, behind)) = left.split_first() {
         let judged = judge_next(&mut known, statement)?;
         if shapes.push(judged).is_err() {
             return Err(ScriptRefused::Memory);
@@ -298,18 +313,21 @@ pub(crate) fn join(
     statements: List<Statement>,
     shapes: &[Shapes],
 ) -> Result<List<Step>, Memory>
-    requires { length statements ≡ length shapes.now }
     ensures { IfOk result (λ steps. steps ≡ steps_of statements shapes.now) }
 {
     let mut steps = Vec::new(alloc);
     steps.reserve(shapes.len())?;
-    let mut i = 0;
-    for statement in statements.into_vec() {
-        steps.push_reserved(Step {
+    let mut waiting = statements.into_vec().into_iter();
+    let mut left = shapes;
+    while let Some(statement) = waiting.next() {
+        let Some((shapes, behind)) = left.split_first() else {
+            break;
+        };
+        steps.push(Step {
             statement,
-            shapes: shapes[i],
-        });
-        i += 1;
+            shapes: *shapes,
+        })?;
+        left = behind;
     }
     Ok(List::from_vec(steps))
 }
