@@ -8,3 +8,4 @@ pub mod Whole
 pub mod Known
 pub mod NameRules
 pub mod Noted
+pub mod Judged

@@ -86,9 +86,13 @@ none_bound known shape verb names old = rw old refl
 
 -- ---- Keeping what a statement does
 
-abbrev KeptSo : KnownNames → KnownNames → List ℕ → Shape → Bool → Type 0
+abbrev pub KeptSo : KnownNames → KnownNames → List ℕ → Shape → Bool → Type 0
 KeptSo old new name shape gone =
     (other : List ℕ) → look other new ≡ cond (bytes_eq name other) (Some (record { shape = shape; is_deleted = gone })) (look other old)
+
+-- the same for a name with these bytes
+pub kept_named : (old new : KnownNames) (word name : List ℕ) (shape : Shape) (gone : Bool) → word ≡ name → KeptSo old new word shape gone → KeptSo old new name shape gone
+kept_named old new word name shape gone same kept = subst (λ name. KeptSo old new name shape gone) same kept
 
 pub market_noted : (known : List NamedShape) (deleted : List (List ℕ)) (old new : KnownNames) (line : ℕ) (to : Name) (market : Market) (shapes : Shapes)
     → KeptSo old new (name_bytes to) shapes.first false → Keeps known deleted old

@@ -162,6 +162,6 @@ step_of one shapes = record { statement = one; shapes = shapes }
 
 -- statements, each with its shapes, as far as both are there
 abbrev pub steps_of : List statement.Statement → List Shapes → List Step
-steps_of [] shapes = []
-steps_of (one ∷ others) [] = []
+steps_of said [] = []
+steps_of [] (shapes ∷ more) = []
 steps_of (one ∷ others) (shapes ∷ more) = step_of one shapes ∷ steps_of others more

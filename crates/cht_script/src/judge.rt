@@ -290,15 +290,20 @@ pub(crate) fn judge_all(
     let mut shapes = List::new(alloc);
     let mut left = statements;
     while let Some((statement, behind)) = left.split_first() {
-        let judged = judge_next(&mut known, statement)?;
-        if shapes.push(judged).is_err() {
-            return Err(ScriptRefused::Memory);
+        match judge_next(&mut known, statement) {
+            Err(refused) => return Err(refused),
+            Ok(judged) => {
+                if shapes.push(judged).is_err() {
+                    return Err(ScriptRefused::Memory);
+                }
+            }
         }
         left = behind;
     }
-    if let Some(begun) = begun
-        && known.find(begun.to.as_bytes()).is_some()
-    {
+    let Some(begun) = begun else {
+        return Ok(shapes);
+    };
+    if known.find(begun.to.as_bytes()).is_some() {
         return Err(ScriptRefused::Fault(Fault {
             line: begun.line,
             code: 16,
@@ -319,8 +324,8 @@ pub(crate) fn join(
     steps.reserve(shapes.len())?;
     let mut waiting = statements.into_vec().into_iter();
     let mut left = shapes;
-    while let Some(statement) = waiting.next() {
-        let Some((shapes, behind)) = left.split_first() else {
+    while let Some((shapes, behind)) = left.split_first() {
+        let Some(statement) = waiting.next() else {
             break;
         };
         steps.push(Step {
