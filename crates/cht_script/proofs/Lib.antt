@@ -9,3 +9,5 @@ pub mod Known
 pub mod NameRules
 pub mod Noted
 pub mod Judged
+pub mod Split
+pub mod ScriptJudged

@@ -89,7 +89,10 @@ pub fn check(alloc: Global, script: Script) -> Result<Checked, ScriptRefused>
         begun,
         stop,
     } = script;
-    let shapes = judge_all(alloc, statements.as_slice(), begun)?;
+    let shapes = match judge_all(alloc, statements.as_slice(), begun) {
+        Ok(shapes) => shapes,
+        Err(refused) => return Err(refused),
+    };
     if let Some(fault) = stop {
         return Err(ScriptRefused::Fault(fault));
     }
