@@ -22,7 +22,7 @@ use Rattle.cht_script.specs.declared.script.Statement.TheVariants as statements
 use Rattle.cht_script.specs.Words.{is_name}
 use Rattle.cht_script.specs.Statements as say
 use Rattle.cht_script.specs.Statements.{said_in}
-use Rattle.cht_script.specs.Items.{Item, Block, item_of, items_in, lines_taken}
+use Rattle.cht_script.specs.Items.{Block, item_of, items_in, lines_taken}
 use Rattle.cht_script.specs.Meaning.{Lists, deeds_in}
 use Rattle.cht_script.specs.Reading.{name_bytes, matrix_of_market, IsGoodMarket}
 use Rattle.cht_script.specs.Parsing.{line_fault, begun_in}

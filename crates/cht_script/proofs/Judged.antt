@@ -11,7 +11,6 @@ use Rattle.cht_script.specs.declared.checked.Step.{Step}
 use Rattle.cht_script.specs.declared.names.Kept.{Kept}
 use Rattle.cht_script.specs.declared.names.KnownNames.{KnownNames}
 use Rattle.cht_script.specs.declared.script.Begun.{Begun}
-use Rattle.cht_script.specs.declared.script.Fault.{Fault}
 use Rattle.cht_script.specs.declared.script.Statement.{Statement}
 use Rattle.cht_script.specs.declared.script.Statement.TheVariants as statements
 use Rattle.cht_script.specs.Items.{fault_at}
@@ -19,8 +18,8 @@ use Rattle.cht_script.specs.Verdict.{NamedShape, is_known, name_rules}
 use Rattle.cht_script.specs.Meaning.{Deed, line_of}
 use Rattle.cht_script.specs.Reading.{name_bytes, deed_of, IsFormed, AreFormed}
 use Rattle.cht_script.specs.Parsing.{begun_told}
-use Rattle.cht_script.specs.Checking.{said_by, known_behind, deleted_behind, name_fault, names_fault, deeds_begun, IsStep, AreSteps, deed_in}
-use Rattle.cht_script.specs.Judging.{look, Keeps, IsShapedAs, Goes, HasItsNames, HaveTheirNames, AreShapedAs, AreJudgedTo, with_begun, JudgesAll, step_of, steps_of}
+use Rattle.cht_script.specs.Checking.{said_by, known_behind, deleted_behind, name_fault, names_fault, deeds_begun, AreSteps, deed_in}
+use Rattle.cht_script.specs.Judging.{look, Keeps, Goes, HasItsNames, HaveTheirNames, AreShapedAs, AreJudgedTo, with_begun, JudgesAll, step_of, steps_of}
 use Rattle.cht_script.proofs.Known.{none_kept_yet}
 use Rattle.cht_script.proofs.NameRules.{said_sound, found_any}
 

@@ -1,6 +1,6 @@
 -- The rules on names of a statement, by what is kept of its inputs.
-use Rattle.std.proofs.Common.{◌≡◌, ℕ, ◌≤◌, Bool, true, false, not, List, [], ◌∷◌, ◌++◌, map, take, Option, None, Some, refl, sym, ap, ap₂, ◌∙◌, inl, inr, arith}
-use Rattle.std.specs.Prelude.{◌&&◌, ◌||◌, is_none, is_some, Result, Ok, Err}
+use Rattle.std.proofs.Common.{◌≡◌, ℕ, ◌≤◌, Bool, true, false, not, List, [], ◌∷◌, take, Option, None, Some, refl, sym, ap, ap₂, ◌∙◌, inl, inr, arith}
+use Rattle.std.specs.Prelude.{◌&&◌, ◌||◌, is_none, is_some, Ok, Err}
 use Rattle.std.specs.List.{list_all, list_any}
 use Rattle.std.proofs.lemmas.Bool.{cases_Bool, true≢false}
 use Rattle.mm_text.specs.Faults.{first_code}
@@ -11,12 +11,12 @@ use Rattle.cht_script.specs.declared.names.KnownNames.{KnownNames}
 use Rattle.cht_script.specs.declared.script.Names.{Names}
 use Rattle.cht_script.specs.declared.script.Verb.{Verb}
 use Rattle.cht_script.specs.declared.script.Verb.TheVariants.{Copy, Add, Mul, TMul, MulT, Square, Full, Trace, Count, Print, Delete}
-use Rattle.cht_script.specs.Statements.{Said, Market, Act, new_names, input_names, names_after, binds, general, shapes_fit, forms_fit, shape_bound}
-use Rattle.cht_script.specs.Verdict.{NamedShape, is_known, shape_in, first_shape, second_shape, is_among, name_rules}
+use Rattle.cht_script.specs.Statements.{Said, Market, Act, input_names, names_after, binds, general, shapes_fit, forms_fit, shape_bound}
+use Rattle.cht_script.specs.Verdict.{NamedShape, is_known, shape_in, name_rules}
 use Rattle.cht_script.specs.Reading.{name_bytes, names_of}
-use Rattle.cht_script.specs.Checking.{IsSound, inputs_fit}
-use Rattle.cht_script.specs.Judging.{look, kept_of, Keeps, shape_kept, was_deleted, input_rules, JudgesInputs, IsShapedAs, JudgesSaid}
-use Rattle.cht_script.proofs.Known.{or_none, none_kept, kept_shape, kept_deleted, AreBound, any_newest}
+use Rattle.cht_script.specs.Checking.{IsSound}
+use Rattle.cht_script.specs.Judging.{look, kept_of, Keeps, shape_kept, input_rules, JudgesInputs, IsShapedAs, JudgesSaid}
+use Rattle.cht_script.proofs.Known.{or_none, none_kept, kept_shape, kept_deleted, AreBound}
 
 -- ---- A statement without a fault
 

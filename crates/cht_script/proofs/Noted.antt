@@ -1,6 +1,5 @@
 -- What a statement does to the names that are kept, and what is known of it.
-use Rattle.std.proofs.Common.{◌≡◌, ℕ, zero, suc, ◌+◌, ◌≤◌, Bool, true, false, cond, List, [], ◌∷◌, ◌++◌, length, map, take, Some, refl, sym, ap, ap₂, ◌∙◌, subst, arith}
-use Rattle.std.specs.Prelude.{◌&&◌, ◌||◌}
+use Rattle.std.proofs.Common.{◌≡◌, ℕ, zero, suc, ◌+◌, ◌≤◌, Bool, true, false, cond, List, [], ◌∷◌, ◌++◌, map, take, Some, refl, sym, ap, ◌∙◌, subst, arith}
 use Rattle.std.specs.List.{list_all, list_any}
 use Rattle.std.specs.Str.{bytes_eq}
 use Rattle.std.proofs.lemmas.Bool.{true≢false, and_parts}
@@ -19,9 +18,8 @@ use Rattle.cht_script.specs.declared.script.Verb.{Verb}
 use Rattle.cht_script.specs.declared.script.Verb.TheVariants.{Copy, Add, Mul, TMul, MulT, Square, Full, Trace, Count, Print, Delete}
 use Rattle.cht_script.specs.Statements.{Market as Said, Act, new_names, input_names, names_after, binds}
 use Rattle.cht_script.specs.Verdict.{NamedShape, with_shape, is_known, shape_in, bound_said, deleted_by_verb, name_rules}
-use Rattle.cht_script.specs.Meaning.{Lists, Acts}
-use Rattle.cht_script.specs.Reading.{name_bytes, names_of, shapes_of, deed_of, shape_of_market}
-use Rattle.cht_script.specs.Checking.{said_by, shape_listed, known_behind, deleted_behind, shapes_said}
+use Rattle.cht_script.specs.Reading.{name_bytes, names_of, deed_of, shape_of_market}
+use Rattle.cht_script.specs.Checking.{shape_listed, known_behind, deleted_behind, shapes_said}
 use Rattle.cht_script.specs.Judging.{look, Keeps, IsShapedAs, deletes}
 use Rattle.cht_script.proofs.Known.{or_none, keeps_bound, keeps_deleted}
 use Rattle.cht_script.proofs.NameRules.{said_sound, one_name}

@@ -1,6 +1,6 @@
 -- A script that was parsed, judged.
-use Rattle.std.proofs.Common.{◌≡◌, ℕ, ◌^◌, ◌≤◌, List, [], length, map, Option, None, Some, refl, sym, ap, ap₂, ◌∙◌, subst, arith}
-use Rattle.std.specs.Prelude.{Result, Ok, Err}
+use Rattle.std.proofs.Common.{◌≡◌, ℕ, List, [], length, map, None, Some, sym, ap, ◌∙◌, subst, arith}
+use Rattle.std.specs.Prelude.{Ok, Err}
 use Rattle.mm_text.specs.Faults.{or_else}
 use Rattle.cht_script.specs.declared.checked.Checked.{Checked}
 use Rattle.cht_script.specs.declared.checked.ScriptRefused.{ScriptRefused}
@@ -10,9 +10,8 @@ use Rattle.cht_script.specs.declared.script.Fault.{Fault}
 use Rattle.cht_script.specs.declared.script.Script.{Script}
 use Rattle.cht_script.specs.declared.script.Statement.{Statement}
 use Rattle.cht_script.specs.Verdict.{verdict}
-use Rattle.cht_script.specs.Meaning.{deeds_of}
-use Rattle.cht_script.specs.Reading.{deed_of, IsLeastHeight}
-use Rattle.cht_script.specs.Parsing.{IsParsed, IsParsedOfSome, front_of, grid_read, leaf_read, deeds_with}
+use Rattle.cht_script.specs.Reading.{IsLeastHeight}
+use Rattle.cht_script.specs.Parsing.{IsParsed, IsParsedOfSome, grid_read, leaf_read}
 use Rattle.cht_script.specs.Checking.{names_fault, fault_of, deed_in, IsChecked, IsJudged, IsFaultOf}
 use Rattle.cht_script.specs.Judging.{HaveTheirNames, AreShapedAs, with_begun, JudgesAll, steps_of}
 use Rattle.cht_script.proofs.Split.{parsed_fault, whole_text, parsed_stop}

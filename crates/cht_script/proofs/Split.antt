@@ -1,28 +1,26 @@
 -- The verdict of a text, from the rules on lines and the rules on names apart.
-use Rattle.std.proofs.Common.{◌≡◌, ℕ, ◌+◌, Bool, true, false, not, cond, List, [], ◌∷◌, ◌++◌, length, map, Option, None, Some, refl, sym, ap, ap₂, ◌∙◌, inl, inr, arith}
+use Rattle.std.proofs.Common.{◌≡◌, ℕ, ◌+◌, Bool, true, false, not, cond, List, [], ◌∷◌, ◌++◌, length, Option, None, Some, refl, sym, ap, ap₂, ◌∙◌, inl, inr, arith}
 use Rattle.std.specs.Prelude.{◌==◌, is_none, codes, option_map, option_and_then, nat_le, Result, Ok, Err}
 use Rattle.std.specs.List.{flat_map, list_all}
 use Rattle.std.specs.Str.{bytes_eq}
-use Rattle.std.proofs.lemmas.Bool.{cases_Bool, cond-true, cond-false, eqb-true, true≢false}
+use Rattle.std.proofs.lemmas.Bool.{cases_Bool, cond-true, cond-false, eqb-true}
 use Rattle.std.proofs.lemmas.List.{append-nil}
 use Rattle.std.proofs.lemmas.Grind.{flat_map-append}
 use Rattle.dense_def.specs.Matrix.{zeros}
 use Rattle.dense_def.proofs.Entries.{height-made}
-use Rattle.mm_text.specs.declared.market.MarketFault.{MarketFault}
 use Rattle.mm_text.specs.declared.market.Form.TheVariants.{General}
 use Rattle.mm_text.specs.Lines.{words_of, is_text}
 use Rattle.mm_text.specs.Faults.{first_code, or_else, first_fault}
 use Rattle.mm_text.specs.Block as listing
-use Rattle.cht_script.specs.declared.checked.Shape.{Shape}
 use Rattle.cht_script.specs.declared.script.Fault.{Fault}
 use Rattle.cht_script.specs.declared.script.Script.{Script}
 use Rattle.cht_script.specs.declared.script.Verb.{Verb}
 use Rattle.cht_script.specs.Statements.{Said, Market, Act, said_in, names_said, names_after, act_with, verb_named}
 use Rattle.cht_script.specs.Words.{is_name}
-use Rattle.cht_script.specs.Items.{fault_at, fault_behind, Heading, heading_of, Item, Line, Block, items_behind, items_of}
-use Rattle.cht_script.specs.Verdict.{NamedShape, bound_by, bound_by_line, bound_said, known_after, deleted_by, deleted_by_line, deleted_said, deleted_after, shape_of_block, word_rules, name_rules, name_rules_behind, rules_if_said, line_code, item_fault, fault_with, most_bytes, verdict}
+use Rattle.cht_script.specs.Items.{fault_at, fault_behind, Heading, heading_of, Item, Line, Block, items_behind}
+use Rattle.cht_script.specs.Verdict.{NamedShape, bound_by, bound_by_line, bound_said, known_after, deleted_by, deleted_by_line, deleted_said, deleted_after, shape_of_block, name_rules_behind, rules_if_said, item_fault, fault_with, most_bytes, verdict}
 use Rattle.cht_script.specs.Meaning.{Deed, Lists, Acts, deeds_said, deeds_in, deeds_of}
-use Rattle.cht_script.specs.Parsing.{line_rules, line_fault, items_read, item_stopped, begun_in, begun_told, front_of, stop_with, begun_with, deeds_with, IsParsed}
+use Rattle.cht_script.specs.Parsing.{line_rules, line_fault, items_read, item_stopped, begun_in, front_of, stop_with, begun_with, deeds_with, IsParsed}
 use Rattle.cht_script.specs.Checking.{said_by, shape_listed, bound_by_deed, known_behind, deleted_behind, name_fault, names_fault, deeds_begun, deeds_judged, fault_of}
 
 -- ---- Behind one more item

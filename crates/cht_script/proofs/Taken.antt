@@ -1,6 +1,6 @@
 -- What a line adds to a reader, and where a reader stops.
-use Rattle.std.proofs.Common.{◌≡◌, ℕ, suc, ◌≤◌, Bool, true, false, not, cond, eqb, List, [], ◌∷◌, ◌++◌, length, Option, None, Some, refl, sym, ap, ◌∙◌, inl, inr, subst, arith}
-use Rattle.std.specs.Prelude.{◌&&◌, codes, option_map, option_and_then}
+use Rattle.std.proofs.Common.{◌≡◌, ℕ, suc, Bool, true, false, not, cond, eqb, List, [], ◌∷◌, ◌++◌, length, Option, None, Some, refl, sym, ap, ◌∙◌, inl, inr, arith}
+use Rattle.std.specs.Prelude.{codes, option_map, option_and_then}
 use Rattle.std.specs.List.{list_all}
 use Rattle.std.specs.Str.{bytes_eq}
 use Rattle.std.proofs.lemmas.Bool.{cases_Bool, cond-true, cond-false, eqb-true}
@@ -12,13 +12,12 @@ use Rattle.cht_script.specs.declared.script.Names.{Names}
 use Rattle.cht_script.specs.declared.script.Statement.TheVariants as statements
 use Rattle.cht_script.specs.declared.script.Verb.{Verb}
 use Rattle.cht_script.specs.Words.{is_name}
-use Rattle.cht_script.specs.Statements.{Said, Market, Act, said_in, act_with, names_after, verb_named}
-use Rattle.cht_script.specs.Items.{Item, Line, fault_at, name_listed, item_of, items_in, lines_taken}
+use Rattle.cht_script.specs.Statements.{Market, Act, said_in, act_with, names_after, verb_named}
+use Rattle.cht_script.specs.Items.{Line, fault_at, name_listed, item_of, items_in, lines_taken}
 use Rattle.cht_script.specs.Meaning.{Acts, deeds_in, deeds_said}
-use Rattle.cht_script.specs.Reading.{names_of}
 use Rattle.cht_script.specs.Parsing.{line_rules, line_fault, begun_in}
 use Rattle.cht_script.specs.Steps.{AreNamesOf, code_for}
-use Rattle.cht_script.specs.Progress.{item_at, IsTaken, IsStopped}
+use Rattle.cht_script.specs.Progress.{IsTaken, IsStopped}
 
 -- ---- How many names a statement has
 

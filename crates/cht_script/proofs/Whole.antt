@@ -1,6 +1,6 @@
 -- From line to line, up to the first that breaks a rule or to the end.
-use Rattle.std.proofs.Common.{◌≡◌, ℕ, suc, ◌+◌, ◌^◌, ◌≤◌, Bool, true, false, cond, List, [], ◌∷◌, ◌++◌, length, map, Option, None, Some, refl, sym, ap, ◌∙◌, append_assoc, length-append, arith, Bor}
-use Rattle.std.specs.Prelude.{◌&&◌, ◌==◌, is_none, Result, Ok, Err, IfOk, option_and_then}
+use Rattle.std.proofs.Common.{◌≡◌, ℕ, suc, ◌+◌, ◌^◌, ◌≤◌, true, false, cond, List, [], ◌∷◌, ◌++◌, length, map, Option, None, Some, refl, sym, ap, ◌∙◌, append_assoc, length-append, arith, Bor}
+use Rattle.std.specs.Prelude.{◌==◌, is_none, Result, Ok, Err, IfOk, option_and_then}
 use Rattle.cht_ids.specs.declared.memory.Memory.{Memory}
 use Rattle.std.specs.List.{flat_map, list_all}
 use Rattle.std.proofs.lemmas.Bool.{and_parts, true≢false}
@@ -10,7 +10,6 @@ use Rattle.std.proofs.lemmas.Grind.{flat_map-append}
 use Rattle.mm_text.specs.Lines.{cut_lines, lines_of, onto_line, without_return}
 use Rattle.cht_script.specs.declared.heading.Heading as front
 use Rattle.cht_script.specs.declared.reader.Reader.{Reader}
-use Rattle.cht_script.specs.declared.reader.Reading.{Reading}
 use Rattle.cht_script.specs.declared.reader.Stop.{Stop}
 use Rattle.cht_script.specs.declared.script.Fault.{Fault}
 use Rattle.cht_script.specs.declared.script.Statement.{Statement}
@@ -19,7 +18,7 @@ use Rattle.cht_script.specs.Items.{Item, item_of, items_in, lines_taken}
 use Rattle.cht_script.specs.Meaning.{deeds_in}
 use Rattle.cht_script.specs.Reading.{deed_of, IsFormed, AreFormed}
 use Rattle.cht_script.specs.Parsing.{line_fault, items_read, item_stopped, begun_in}
-use Rattle.cht_script.specs.Progress.{item_at, IsTaken, IsStopOf, IsStopped, Reads, HasPlace, is_clean, IsReadTo, fault_stopped, begun_stopped, IsReadOf, HasPassed, items_after, IsReadBehind}
+use Rattle.cht_script.specs.Progress.{item_at, IsTaken, IsStopOf, IsStopped, Reads, HasPlace, is_clean, IsReadTo, IsReadOf, HasPassed, items_after}
 
 -- ---- Items without a fault, and behind them one that has one
 

@@ -136,11 +136,7 @@ fn judge_inputs(
 }
 
 // A statement that binds its first name by one or two inputs.
-fn judge_new(
-    known: &KnownNames<'_>,
-    verb: Verb,
-    names: &Names,
-) -> Result<Shapes, u32>
+fn judge_new(known: &KnownNames<'_>, verb: Verb, names: &Names) -> Result<Shapes, u32>
     requires count { names.now.count ≡ names_after verb }
     requires binds { binds verb ≡ true }
     ensures { (bound : List NamedShape) (deleted : List (List ℕ)) → Keeps bound deleted known.now

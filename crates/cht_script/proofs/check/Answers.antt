@@ -1,4 +1,4 @@
-use Rattle.std.proofs.Common.{◌≡◌, rules, refl, sym, None, Some}
+use Rattle.std.proofs.Common.{refl}
 use Rattle.cht_script.proofs.ScriptJudged.{parsed_names, names_refused, stop_refused, all_checked}
 use Rattle.cht_script.proofs.check.Goals as goal
 

@@ -1,5 +1,4 @@
-use Rattle.std.proofs.Common.{◌≡◌, ◌∙◌, sym, refl, rules, true, false}
-use Rattle.cht_script.specs.Verdict.{is_known}
+use Rattle.std.proofs.Common.{◌∙◌, sym, refl}
 use Rattle.cht_script.specs.Reading.{name_bytes}
 use Rattle.cht_script.proofs.NameRules.{found_any}
 use Rattle.cht_script.proofs.Noted.{market_taken, market_shaped}

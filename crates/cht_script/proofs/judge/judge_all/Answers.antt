@@ -1,4 +1,4 @@
-use Rattle.std.proofs.Common.{◌≡◌, rules, None}
+use Rattle.std.proofs.Common.{rules}
 use Rattle.cht_script.proofs.Judged.{judged_start, judged_more, judged_stopped, all_judged, begun_judged, none_begun}
 use Rattle.cht_script.proofs.judge.judge_all.Goals as goal
 

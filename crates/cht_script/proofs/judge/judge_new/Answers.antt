@@ -1,4 +1,4 @@
-use Rattle.std.proofs.Common.{◌≡◌, ◌∙◌, sym, rules, arith}
+use Rattle.std.proofs.Common.{◌≡◌, ◌∙◌, rules, arith}
 use Rattle.cht_script.specs.Statements.{names_after}
 use Rattle.cht_script.specs.Reading.{name_bytes}
 use Rattle.cht_script.proofs.NameRules.{found, found_any, two_names, three_refused, three_judged, two_refused, two_judged}

@@ -1,4 +1,4 @@
-use Rattle.std.proofs.Common.{◌≡◌, ◌∙◌, sym, rules, true, false}
+use Rattle.std.proofs.Common.{◌≡◌, ◌∙◌, sym, true, false}
 use Rattle.cht_script.specs.Statements.{binds, general}
 use Rattle.cht_script.specs.Reading.{name_bytes, names_of}
 use Rattle.cht_script.specs.Judging.{deletes}
