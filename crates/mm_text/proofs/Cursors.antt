@@ -1,9 +1,14 @@
 -- What a reader passes in a text: whole lines, one after the other.
-use Rattle.std.proofs.Common.{◌≡◌, ℕ, ◌+◌, ◌-◌, ◌<◌, ◌≤◌, Bool, true, false, List, [], ◌∷◌, ◌++◌, length, take, drop, refl, sym, ap, ◌∙◌, arith, append_assoc, length-append}
-use Rattle.std.proofs.lemmas.Bool.{cond-true, cond-false}
-use Rattle.std.proofs.lemmas.List.{take-append-drop, drop-drop, drop_at}
-use Rattle.mm_text.specs.Lines.{cut_lines}
-use Rattle.mm_text.specs.Steps.{Passes, is_passed, from_line}
+use Rattle.std.proofs.Common.{◌≡◌, ℕ, suc, ◌+◌, ◌-◌, ◌<◌, ◌≤◌, Bool, true, false, eqb, List, [], ◌∷◌, ◌++◌, length, map, take, drop, refl, sym, ap, ◌∙◌, arith, append_assoc, length-append}
+use Rattle.std.proofs.lemmas.Bool.{cond-true, cond-false, cond_both}
+use Rattle.std.proofs.lemmas.List.{take-append-drop, drop-drop, drop_at, length-drop}
+use Rattle.mm_text.specs.Lines.{cut_lines, onto_line, without_return}
+use Rattle.mm_text.specs.Faults.{numbered}
+use Rattle.mm_text.specs.Steps.{Passes, lines_behind, line_after, is_passed, from_line}
+
+onto_some : (byte : ℕ) (lines : List (List ℕ)) → 0 < length (onto_line byte lines)
+onto_some byte [] = omega arith
+onto_some byte (line ∷ lines) = omega arith
 
 pub Passes-none : (n : ℕ) (text : List ℕ) → Passes n text n text
 Passes-none n text = record {
@@ -13,7 +18,17 @@ Passes-none n text = record {
   whole = refl;
   few = omega arith;
   left = refl;
+  total = refl;
 }
+
+-- a text that is not empty has a line
+some_line : (text : List ℕ) → 0 < length text → 0 < length (cut_lines text)
+some_line [] h = absurd (omega arith)
+some_line (byte ∷ text) h =
+    cond_both (eqb byte 10) ([] ∷ cut_lines text) (onto_line byte (cut_lines text)) (λ xs. 0 < length xs) (λ _. omega arith) (λ _. onto_some byte (cut_lines text))
+
+one_less : (n : ℕ) (text rest : List ℕ) → length rest < length text → cut_lines rest ≡ drop 1 (cut_lines text) → n + 1 + length (cut_lines rest) ≡ n + length (cut_lines text)
+one_less n text rest shorter left = let some = some_line text (omega arith) in omega (arith, ap length left, length-drop 1 (cut_lines text))
 
 pub Passes-one : (n : ℕ) (text rest : List ℕ) → rest ≡ drop (length text - length rest) text → length rest < length text → cut_lines rest ≡ drop 1 (cut_lines text)
     → Passes n text (n + 1) rest
@@ -27,6 +42,7 @@ Passes-one n text rest is shorter left =
       whole = whole;
       few = omega (arith, ap length whole, length-append (take k text) rest);
       left = left;
+      total = one_less n text rest shorter left;
     }
 
 pub Passes-then : (n m l : ℕ) (text middle rest : List ℕ) → Passes n text m middle → Passes m middle l rest → Passes n text l rest
@@ -37,6 +53,7 @@ Passes-then n m l text middle rest p q = record {
   whole = append_assoc p.front q.front rest ∙ ap (λ xs. p.front ++ xs) q.whole ∙ p.whole;
   few = omega (arith, p.few, q.few, length-append p.front q.front);
   left = q.left ∙ ap (drop q.lines) p.left ∙ drop-drop q.lines p.lines (cut_lines text);
+  total = q.total ∙ p.total;
 }
 
 -- the count of lines and bytes together does not grow
@@ -59,3 +76,11 @@ lines_left m text rest p =
     let same : drop (length text - length rest) text ≡ rest = ap (λ xs. drop (length text - length rest) xs) (sym p.whole) ∙ drop_at p.front rest (length text - length rest) (sym long) in
     let all : p.lines ≡ m = omega (arith, p.count) in
     ap cut_lines same ∙ p.left ∙ ap (λ k. drop k (cut_lines text)) all
+
+-- the line after the last, where no line is left
+no_lines : (n : ℕ) (lines : List (List ℕ)) → numbered n (map without_return lines) ≡ [] → length lines ≡ 0
+no_lines n [] h = refl
+no_lines n (line ∷ lines) h = absurd cc
+
+pub end_line : (n m : ℕ) (text rest : List ℕ) → Passes n text m rest → lines_behind m rest ≡ [] → m + 1 ≡ line_after n text
+end_line n m text rest p none = let e = no_lines (suc m) (cut_lines rest) none in omega (arith, p.total, e)

@@ -1,103 +1,76 @@
 -- The first lines of a block: the banner and the size line.
-use Rattle.std.proofs.Common.{◌≡◌, ℕ, ◌+◌, Bool, true, false, List, [], ◌∷◌, length, Option, None, Some, Result, Ok, Err, ℤ, refl, sym, ap, ◌∙◌, subst}
-use Rattle.std.specs.Prelude.{if◌then◌else◌, option_and_then}
-use Rattle.mm_text.specs.declared.market.Form.TheVariants.{General, Symmetric}
+use Rattle.std.proofs.Common.{◌≡◌, ℕ, ◌+◌, true, List, [], ◌∷◌, length, None, Some, Result, Ok, Err, ℤ, refl, sym, ap, ◌∙◌, arith}
+use Rattle.std.proofs.lemmas.List.{length-map}
+use Rattle.mm_text.specs.declared.market.Form.{Form}
 use Rattle.mm_text.specs.declared.market.MarketFault.{MarketFault}
+use Rattle.mm_text.specs.Lines.{cut_lines, lines_of, without_return}
 use Rattle.mm_text.specs.Faults.{numbered}
-use Rattle.mm_text.specs.Block.{Sizes, Block, three_of, unless, and_then, banner_in, from_sizes, sizes_from, sizes_of, sizes_in, entry_lines, block_of_entries, block_from_sizes, block_in}
-use Rattle.mm_text.specs.Reading.{HasNoBlock}
-use Rattle.mm_text.specs.Steps.{found, from_line, IsHead}
+use Rattle.mm_text.specs.Block.{Sizes, Block, three_of, found_or, fault_at, and_then, banner_in, from_sizes, sizes_from, sizes_in, entry_lines, block_of_entries, block_from_sizes, block_in}
+use Rattle.mm_text.specs.Steps.{Passes, lines_behind, line_after, from_line, IsHead}
 use Rattle.mm_text.proofs.LineRules.{three_text, three_numerals}
 
--- ---- The banner
-
--- what stands at the front of a text whose first line is this, and whose other lines are these
-abbrev Behind : ℕ → ℕ → List ℕ → List (ℕ × List ℕ) → Result Block MarketFault
-Behind end grid first lines = and_then (λ form. block_from_sizes end grid form (from_sizes lines)) (banner_in first)
-
-block_behind : (grid : ℕ) (text : List (List ℕ)) (n : ℕ) (first : List ℕ) (lines : List (ℕ × List ℕ)) → numbered 1 text ≡ (n, first) ∷ lines
-    → (end : ℕ) × (block_in grid text ≡ Behind end grid first lines)
-block_behind grid [] n first lines e = absurd cc
-block_behind grid (x ∷ xs) n first lines e =
-    let head : x ≡ first = ap (λ (p : ℕ × List ℕ). p.1) (let q : (1, x) ≡ (n, first) = cc in q) in
-    let tail : numbered 2 xs ≡ lines = cc in
-    (2 + length xs, rw (head, tail) refl)
-
--- what was found, and what was not
-found-None : {A F : Type 0} (r : Result A F) → found r ≡ None → (fault : F) × (r ≡ Err fault)
-found-None (Ok x) h = absurd cc
-found-None (Err fault) h = (fault, refl)
-
-found-Some : {A F : Type 0} (r : Result A F) (x : A) → found r ≡ Some x → r ≡ Ok x
-found-Some (Ok y) x h = let e : y ≡ x = cc in ap Ok e
-found-Some (Err fault) x h = absurd cc
-
--- ---- A symmetric block
-
-unless-symmetric : (o : Option MarketFault) (block : Block) (fault : MarketFault) (b : Bool) → block.form ≡ Symmetric → HasNoBlock (unless o (if b then Ok block else Err fault))
-unless-symmetric None block fault true h = h
-unless-symmetric None block fault false h = tt
-unless-symmetric (Some x) block fault b h = tt
-
-sizes-symmetric : (r : Result Sizes MarketFault) (next : Sizes → Result Block MarketFault) → ((sizes : Sizes) → HasNoBlock (next sizes)) → HasNoBlock (and_then next r)
-sizes-symmetric (Ok sizes) next h = h sizes
-sizes-symmetric (Err fault) next h = tt
-
-block-symmetric : (end grid : ℕ) (lines : List (ℕ × List ℕ)) → HasNoBlock (block_from_sizes end grid Symmetric lines)
-block-symmetric end grid [] = tt
-block-symmetric end grid (line ∷ lines) = sizes-symmetric (sizes_in grid Symmetric line) _ (λ sizes. unless-symmetric _ _ _ _ refl)
-
-pub symmetric_block : (grid : ℕ) (text : List (List ℕ)) (n : ℕ) (first : List ℕ) (lines : List (ℕ × List ℕ)) → numbered 1 text ≡ (n, first) ∷ lines
-    → Some Symmetric ≡ found (banner_in first) → HasNoBlock (block_in grid text)
-symmetric_block grid text n first lines e form =
-    let (end, is) = block_behind grid text n first lines e in
-    let P : Result Block MarketFault → Type 0 = HasNoBlock in
-    subst P (sym (is ∙ ap (and_then (λ f. block_from_sizes end grid f (from_sizes lines))) (found-Some (banner_in first) Symmetric (sym form)))) (block-symmetric end grid (from_sizes lines))
-
 -- ---- The size line
+
+-- a size line of three numbers
+sizes-numbers : (grid : ℕ) (form : Form) (n : ℕ) (line : List ℕ) (m : ℤ × ℤ × ℤ) → three_of line ≡ Some m → sizes_in grid form (n, line) ≡ found_or (fault_at n 8) (sizes_from grid form m)
+sizes-numbers grid form n line m three = rw (three_text line m three, three_numerals line m three, three) refl
+
+pub sizes-bad : (grid : ℕ) (form : Form) (n : ℕ) (line : List ℕ) (m : ℤ × ℤ × ℤ) → Some m ≡ three_of line → sizes_from grid form m ≡ None → sizes_in grid form (n, line) ≡ Err (fault_at n 8)
+sizes-bad grid form n line m three none = sizes-numbers grid form n line m (sym three) ∙ ap (found_or (fault_at n 8)) none
+
+pub sizes-good : (grid : ℕ) (form : Form) (n : ℕ) (line : List ℕ) (m : ℤ × ℤ × ℤ) (sizes : Sizes) → Some m ≡ three_of line → sizes_from grid form m ≡ Some sizes → sizes_in grid form (n, line) ≡ Ok sizes
+sizes-good grid form n line m sizes three some = sizes-numbers grid form n line m (sym three) ∙ ap (found_or (fault_at n 8)) some
+
+-- ---- The banner
 
 from_sizes-line : (lines : List (ℕ × List ℕ)) → from_sizes lines ≡ from_line true lines
 from_sizes-line [] = refl
 from_sizes-line (line ∷ lines) = rw (from_sizes-line lines) refl
 
--- the block of a text whose banner names the general form
-general_block : (grid : ℕ) (text : List (List ℕ)) (n : ℕ) (first : List ℕ) (lines : List (ℕ × List ℕ)) → numbered 1 text ≡ (n, first) ∷ lines
-    → Some General ≡ found (banner_in first) → (end : ℕ) × (block_in grid text ≡ block_from_sizes end grid General (from_line true lines))
-general_block grid text n first lines e form =
-    let (end, is) = block_behind grid text n first lines e in
-    (end, is ∙ ap (and_then (λ f. block_from_sizes end grid f (from_sizes lines))) (found-Some (banner_in first) General (sym form)) ∙ ap (block_from_sizes end grid General) (from_sizes-line lines))
+abbrev Behind : ℕ → ℕ → Form → List (ℕ × List ℕ) → Result Block MarketFault
+Behind end grid form lines = block_from_sizes end grid form (from_line true lines)
 
-pub no_size_line : (grid : ℕ) (text : List (List ℕ)) (n : ℕ) (first : List ℕ) (lines : List (ℕ × List ℕ)) → numbered 1 text ≡ (n, first) ∷ lines
-    → Some General ≡ found (banner_in first) → from_line true lines ≡ [] → HasNoBlock (block_in grid text)
-no_size_line grid text n first lines e form none =
-    let (end, is) = general_block grid text n first lines e form in
-    rw (is, none) tt
+block_behind : (grid : ℕ) (text : List (List ℕ)) (n : ℕ) (first : List ℕ) (lines : List (ℕ × List ℕ)) → numbered 1 text ≡ (n, first) ∷ lines
+    → block_in grid text ≡ and_then (λ form. Behind (1 + length text) grid form lines) (banner_in first)
+block_behind grid [] n first lines e = absurd cc
+block_behind grid (x ∷ xs) n first lines e =
+    let head : x ≡ first = ap (λ (p : ℕ × List ℕ). p.1) (let q : (1, x) ≡ (n, first) = cc in q) in
+    let tail : numbered 2 xs ≡ lines = cc in
+    let end : 2 + length xs ≡ 1 + length (x ∷ xs) = omega arith in
+    ap (λ (b : List ℕ). and_then (λ form. block_from_sizes (2 + length xs) grid form (from_sizes (numbered 2 xs))) (banner_in b)) head
+    ∙ ap (λ ls. and_then (λ form. block_from_sizes (2 + length xs) grid form ls) (banner_in first)) (from_sizes-line (numbered 2 xs) ∙ ap (from_line true) tail)
+    ∙ ap (λ k. and_then (λ form. Behind k grid form lines) (banner_in first)) end
 
-unless-Err : {A F : Type 0} (o : Option F) (fault : F) → found (unless {A = A} o (Err fault)) ≡ None
-unless-Err None fault = refl
-unless-Err (Some other) fault = refl
+pub banner_fault : (grid : ℕ) (text : List (List ℕ)) (n : ℕ) (first : List ℕ) (lines : List (ℕ × List ℕ)) (fault : MarketFault) → numbered 1 text ≡ (n, first) ∷ lines
+    → Err fault ≡ banner_in first → block_in grid text ≡ Err fault
+banner_fault grid text n first lines fault e bad =
+    block_behind grid text n first lines e ∙ ap (and_then (λ form. Behind (1 + length text) grid form lines)) (sym bad)
 
-bad_sizes : (grid : ℕ) (line : ℕ × List ℕ) → sizes_of grid General line.1 ≡ None → found (sizes_in grid General line) ≡ None
-bad_sizes grid line none = rw none (unless-Err _ _)
+form_block : (grid : ℕ) (text : List (List ℕ)) (n : ℕ) (first : List ℕ) (lines : List (ℕ × List ℕ)) (form : Form) → numbered 1 text ≡ (n, first) ∷ lines
+    → Ok form ≡ banner_in first → block_in grid text ≡ Behind (1 + length text) grid form lines
+form_block grid text n first lines form e good =
+    block_behind grid text n first lines e ∙ ap (and_then (λ f. Behind (1 + length text) grid f lines)) (sym good)
 
-pub no_sizes : (grid : ℕ) (text : List (List ℕ)) (n m : ℕ) (first line : List ℕ) (lines behind : List (ℕ × List ℕ)) → numbered 1 text ≡ (n, first) ∷ lines
-    → Some General ≡ found (banner_in first) → from_line true lines ≡ (m, line) ∷ behind → sizes_of grid General line ≡ None → HasNoBlock (block_in grid text)
-no_sizes grid text n m first line lines behind e form at none =
-    let (end, is) = general_block grid text n first lines e form in
-    let (fault, bad) = found-None (sizes_in grid General (m, line)) (bad_sizes grid (m, line) none) in
-    rw (is, at, bad) tt
+-- the line after the last of the text
+last_of_text : (text : List ℕ) (m : ℕ) (rest : List ℕ) → Passes 0 text m rest → 1 + length (lines_of text) ≡ line_after m rest
+last_of_text text m rest p = omega (arith, p.total, length-map (cut_lines text) without_return)
 
-numbers_first : (grid : ℕ) (o : Option (ℤ × ℤ × ℤ)) (sizes : Sizes) → option_and_then (sizes_from grid General) o ≡ Some sizes → (n : ℤ × ℤ × ℤ) × (o ≡ Some n)
-numbers_first grid None sizes h = absurd cc
-numbers_first grid (Some n) sizes h = (n, refl)
+pub size_line_missing : (grid : ℕ) (text : List ℕ) (n m : ℕ) (first rest : List ℕ) (form : Form) (fault : MarketFault) → lines_behind 0 text ≡ (n, first) ∷ lines_behind m rest → Passes 0 text m rest
+    → Ok form ≡ banner_in first → from_line true (lines_behind m rest) ≡ [] → fault ≡ fault_at (line_after m rest) 13 → block_in grid (lines_of text) ≡ Err fault
+size_line_missing grid text n m first rest form fault e passes good none is =
+    form_block grid (lines_of text) n first (lines_behind m rest) form e good ∙ ap (block_from_sizes (1 + length (lines_of text)) grid form) none
+    ∙ ap (λ k. Err (fault_at k 13)) (last_of_text text m rest passes) ∙ ap Err (sym is)
 
-good_sizes : (grid : ℕ) (line : ℕ × List ℕ) (sizes : Sizes) → sizes_of grid General line.1 ≡ Some sizes → sizes_in grid General line ≡ Ok sizes
-good_sizes grid line sizes h =
-    let (n, three) = numbers_first grid (three_of line.1) sizes h in
-    rw (three_text line.1 n three, three_numerals line.1 n three, h) refl
+pub size_line_bad : (grid : ℕ) (text : List ℕ) (n m l : ℕ) (first rest line : List ℕ) (behind : List (ℕ × List ℕ)) (form : Form) (fault : MarketFault) → lines_behind 0 text ≡ (n, first) ∷ lines_behind m rest
+    → Ok form ≡ banner_in first → from_line true (lines_behind m rest) ≡ (l, line) ∷ behind → sizes_in grid form (l, line) ≡ Err fault → block_in grid (lines_of text) ≡ Err fault
+size_line_bad grid text n m l first rest line behind form fault e good at bad =
+    form_block grid (lines_of text) n first (lines_behind m rest) form e good ∙ ap (block_from_sizes (1 + length (lines_of text)) grid form) at
+    ∙ ap (and_then (λ (s : Sizes). block_of_entries (1 + length (lines_of text)) form s l (entry_lines s.entries behind))) bad
 
-pub head_found : (grid : ℕ) (text : List (List ℕ)) (n m : ℕ) (first line : List ℕ) (lines behind : List (ℕ × List ℕ)) (sizes : Sizes) → numbered 1 text ≡ (n, first) ∷ lines
-    → Some General ≡ found (banner_in first) → from_line true lines ≡ (m, line) ∷ behind → sizes_of grid General line ≡ Some sizes → IsHead grid text sizes m behind
-head_found grid text n m first line lines behind sizes e form at told =
-    let (end, is) = general_block grid text n first lines e form in
-    (end, is ∙ ap (block_from_sizes end grid General) at ∙ ap (and_then (λ (s : Sizes). block_of_entries end General s m (entry_lines s.entries behind))) (good_sizes grid (m, line) sizes told))
+pub head_found : (grid : ℕ) (text : List ℕ) (n m l : ℕ) (first rest line behind : List ℕ) (form : Form) (sizes : Sizes) → lines_behind 0 text ≡ (n, first) ∷ lines_behind m rest
+    → Passes 0 text l behind → Ok form ≡ banner_in first → from_line true (lines_behind m rest) ≡ (l, line) ∷ lines_behind l behind → sizes_in grid form (l, line) ≡ Ok sizes
+    → IsHead grid (lines_of text) form sizes l behind
+head_found grid text n m l first rest line behind form sizes e passes good at told =
+    form_block grid (lines_of text) n first (lines_behind m rest) form e good ∙ ap (block_from_sizes (1 + length (lines_of text)) grid form) at
+    ∙ ap (and_then (λ (s : Sizes). block_of_entries (1 + length (lines_of text)) form s l (entry_lines s.entries (lines_behind l behind)))) told
+    ∙ ap (λ k. block_of_entries k form sizes l (entry_lines sizes.entries (lines_behind l behind))) (last_of_text text l behind passes)

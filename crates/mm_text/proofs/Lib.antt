@@ -4,9 +4,11 @@ pub mod Cutting
 pub mod Cursors
 pub mod LineRules
 pub mod Heads
-pub mod Gathered
-pub mod Refusals
+pub mod Gathering
 pub mod Order
 pub mod Values
 pub mod MatrixRead
-pub mod Rules
+pub mod Told
+pub mod Repeats
+pub mod Verdicts
+pub mod Placed

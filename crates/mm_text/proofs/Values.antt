@@ -64,7 +64,7 @@ value_at-IsPermutation i j es fs p apart =
       | inr none ↦ value_at-none i j fs (sym (list_any-IsPermutation (names i j) es fs p) ∙ none) ∙ sym (value_at-none i j es none)
     ]
 
-zero_is : (z : ℤ) → is_zero z ≡ true → z ≡ pos 0
+pub zero_is : (z : ℤ) → is_zero z ≡ true → z ≡ pos 0
 zero_is (pos n) h = ap pos (eqb-true n 0 h)
 zero_is (negsuc n) h = absurd (true≢false (sym h))
 

@@ -1,7 +1,8 @@
 -- The places of entries, in their order: row by row, and within a row by rising column.
-use Rattle.std.specs.Prelude.{ℕ, ◌+◌, ◌*◌, ◌^◌, Bool, true, ◌&&◌, not, nat_lt, List, [], ◌∷◌}
+use Rattle.std.specs.Prelude.{ℕ, ◌+◌, ◌*◌, ◌^◌, ◌<◌, min, Bool, true, ◌&&◌, ◌==◌, not, nat_lt, if◌then◌else◌, List, [], ◌∷◌, ◌++◌, map, Option, None, Some}
 use Rattle.std.specs.List.{list_any}
 use Rattle.mm_text.specs.declared.market.Entry.{Entry}
+use Rattle.mm_text.specs.declared.places.Listed.{Listed}
 use Rattle.mm_text.specs.Block.{names}
 use Rattle.mm_text.specs.Cells.{is_zero}
 
@@ -19,6 +20,40 @@ abbrev pub rise : List Entry → Bool
 rise [] = true
 rise (e ∷ []) = true
 rise (e ∷ f ∷ entries) = nat_lt (place_of e) (place_of f) && rise (f ∷ entries)
+
+-- the entries alone
+abbrev pub entries_of : List Listed → List Entry
+entries_of listed = map (λ (one : Listed). one.entry) listed
+
+-- Entries as a text lists them: the numbers of their lines rise and are greater than n. Columns have 32 bits, and lines 64.
+abbrev pub AreListed : ℕ → List Listed → Type 0
+AreListed n [] = Unit {0}
+AreListed n (one ∷ ones) = (n < one.line) × (one.line < 2 ^ 64) × (one.entry.column < 2 ^ 32) × AreListed one.line ones
+
+-- whether one names the place of another
+abbrev pub repeats : Listed → Listed → Bool
+repeats one earlier = names one.entry.row one.entry.column earlier.entry
+
+-- the line of the first of these entries that names the place of one before it, if there is one
+abbrev pub first_repeat : List Listed → List Listed → Option ℕ
+first_repeat before [] = None
+first_repeat before (one ∷ ones) = if list_any (repeats one) before then Some one.line else first_repeat (before ++ one ∷ []) ones
+
+-- the place and the line as one number
+abbrev pub rank_of : Listed → ℕ
+rank_of one = place_of one.entry * 2 ^ 64 + one.line
+
+-- the lesser line of one that was found before and another
+abbrev pub sooner : Option ℕ → ℕ → Option ℕ
+sooner None line = Some line
+sooner (Some before) line = Some (min before line)
+
+-- the least line of one that was found before, and of those that name the place of their neighbour before
+abbrev pub least_repeat : Option ℕ → List Listed → Option ℕ
+least_repeat found [] = found
+least_repeat found (one ∷ []) = found
+least_repeat found (one ∷ next ∷ others) =
+    least_repeat (if place_of one.entry == place_of next.entry then sooner found next.line else found) (next ∷ others)
 
 -- whether the value of an entry is other than 0
 abbrev pub is_number : Entry → Bool

@@ -1,8 +1,6 @@
 -- What a read of a block answers: the block of the definition, or its fault.
-use Rattle.std.specs.Prelude.{◌≡◌, ℕ, ◌≤◌, List, length, drop, Result, Ok, Err}
-use Rattle.mm_text.specs.declared.market.Form.TheVariants.{Symmetric}
+use Rattle.std.specs.Prelude.{◌≡◌, ℕ, ◌+◌, ◌≤◌, List, length, drop, Ok, Err}
 use Rattle.mm_text.specs.declared.market.Market.{Market}
-use Rattle.mm_text.specs.declared.market.MarketFault.{MarketFault}
 use Rattle.mm_text.specs.declared.market.MarketRead.{MarketRead}
 use Rattle.mm_text.specs.declared.market.MarketRefused.{MarketRefused}
 use Rattle.mm_text.specs.declared.market.MarketRefused.TheVariants as refusals
@@ -32,7 +30,7 @@ abbrev pub IsBlockRefused : ℕ → List ℕ → MarketRefused → Type 0
 IsBlockRefused grid text refusals.Memory = Unit {0}
 IsBlockRefused grid text (refusals.Fault fault) = block_in grid (lines_of text) ≡ Err fault
 
--- (of the body before; goes away)
-abbrev pub HasNoBlock : Result Block MarketFault → Type 0
-HasNoBlock (Err fault) = Unit {0}
-HasNoBlock (Ok block) = block.form ≡ Symmetric
+-- the line of a fault is one of the text, or the line after its last
+abbrev pub IsPlaced : List ℕ → MarketRefused → Type 0
+IsPlaced text refusals.Memory = Unit {0}
+IsPlaced text (refusals.Fault fault) = (1 ≤ fault.line) × (fault.line ≤ 1 + length (lines_of text))

@@ -1,14 +1,15 @@
 -- What the steps of a reader answer, line after line.
-use Rattle.std.specs.Prelude.{◌≡◌, ℕ, suc, ◌+◌, ◌≤◌, Bool, ◌&&◌, ◌||◌, nat_le, if◌then◌else◌, not, List, [], ◌∷◌, ◌++◌, length, map, take, drop, Option, None, Some, option_map, option_and_then, Result, Ok, Err, ℤ}
+use Rattle.std.specs.Prelude.{◌≡◌, ℕ, zero, suc, ◌+◌, ◌≤◌, Bool, true, ◌&&◌, ◌||◌, ◌==◌, if◌then◌else◌, not, List, [], ◌∷◌, ◌++◌, length, take, drop, Option, None, Some, Result, Ok, Err, ℤ}
 use Rattle.std.specs.List.{filter}
 use Rattle.mm_text.specs.declared.market.Entry.{Entry}
-use Rattle.mm_text.specs.declared.market.Form.TheVariants.{General}
-use Rattle.mm_text.specs.declared.market.MarketRefused.{MarketRefused}
-use Rattle.mm_text.specs.declared.market.MarketRefused.TheVariants as refusals
+use Rattle.mm_text.specs.declared.market.Form.{Form}
+use Rattle.mm_text.specs.declared.market.Form.TheVariants.{General, Symmetric}
+use Rattle.mm_text.specs.declared.market.MarketFault.{MarketFault}
+use Rattle.mm_text.specs.declared.places.Listed.{Listed}
 use Rattle.mm_text.specs.declared.sizes.SizeLine.{SizeLine}
-use Rattle.mm_text.specs.Lines.{cut_lines, lines_of}
-use Rattle.mm_text.specs.Faults.{numbered}
-use Rattle.mm_text.specs.Block.{Sizes, is_note, is_empty_line, is_inside, lies_within, natural, entry_from, three_of, block_in, block_of_entries}
+use Rattle.mm_text.specs.Lines.{cut_lines, lines_of, words_of, is_text}
+use Rattle.mm_text.specs.Faults.{first_code, numbered}
+use Rattle.mm_text.specs.Block.{Sizes, Block, is_note, is_empty_line, is_inside, are_numerals, says, is_above, lies_within, natural, entry_from, entry_of, three_of, fault_at, block_in, block_of_entries}
 
 -- ---- Lines
 
@@ -24,6 +25,7 @@ pub record Passes (n : ℕ) (text : List ℕ) (m : ℕ) (rest : List ℕ) : Type
   pub whole : front ++ rest ≡ text
   pub few : lines ≤ length front
   pub left : cut_lines rest ≡ drop lines (cut_lines text)
+  pub total : m + length (cut_lines rest) ≡ n + length (cut_lines text)
 
 -- whether a line is passed over: a blank one, and a comment where comments may stand
 abbrev pub is_passed : Bool → List ℕ → Bool
@@ -40,10 +42,10 @@ filled lines = filter (λ (line : ℕ × List ℕ). not (is_empty_line line.1)) 
 
 -- ---- What a line says
 
--- what was found, where something was
-abbrev pub found : {A F : Type 0} → Result A F → Option A
-found (Ok x) = Some x
-found (Err fault) = None
+-- The code of a line that is not three numbers: 2 other bytes than text, 5 a word that is no numeral, and else this one.
+abbrev pub code_without_numbers : ℕ → List ℕ → ℕ
+code_without_numbers otherwise line =
+    if not (is_text line) then 2 else if not (are_numerals (words_of line)) then 5 else otherwise
 
 -- what a size line says, as it was read
 abbrev pub sizes_told : SizeLine → Sizes
@@ -53,40 +55,79 @@ sizes_told line = record { rows = line.rows; columns = line.columns; entries = l
 abbrev pub index_of : ℕ → ℤ → Option ℕ
 index_of high n = if lies_within 1 high n then Some (natural n) else None
 
+-- whether a matrix of so many rows and columns can have a form
+abbrev pub fits_form : Form → ℕ → ℕ → Bool
+fits_form General rows columns = true
+fits_form Symmetric rows columns = rows == columns
+
 -- the entry of three numbers, where it lies within the matrix
 abbrev pub entry_inside : Sizes → ℤ × ℤ × ℤ → Option Entry
 entry_inside sizes n = if is_inside sizes n then Some (entry_from n) else None
 
--- the entry of a line, where it lies within the matrix
-abbrev pub entry_within : Sizes → List ℕ → Option Entry
-entry_within sizes line = option_and_then (entry_inside sizes) (three_of line)
-
 -- ---- The first lines
 
--- Behind the banner and the size line of a block in the general form stand these lines: the block is that of the entry
--- lines among them, for these sizes and a size line with this number.
-abbrev pub IsHead : ℕ → List (List ℕ) → Sizes → ℕ → List (ℕ × List ℕ) → Type 0
-IsHead grid lines sizes n behind =
-    (end : ℕ) × (block_in grid lines ≡ block_of_entries end General sizes n (take sizes.entries (filled behind)))
+-- the number of the line after the last of a text that stands behind n lines
+abbrev pub line_after : ℕ → List ℕ → ℕ
+line_after n rest = suc (n + length (cut_lines rest))
 
--- ---- All entries
+-- Behind the banner and the size line of a block stands this text: the block is that of the entry lines there, for this form,
+-- these sizes, and a size line with this number.
+abbrev pub IsHead : ℕ → List (List ℕ) → Form → Sizes → ℕ → List ℕ → Type 0
+IsHead grid lines form sizes n rest =
+    block_in grid lines ≡ block_of_entries (line_after n rest) form sizes n (take sizes.entries (filled (lines_behind n rest)))
 
--- what all of them give, where each gives something
-abbrev pub all_of : {A : Type 0} → List (Option A) → Option (List A)
-all_of [] = Some []
-all_of (None ∷ others) = None
-all_of (Some x ∷ others) = option_map (λ xs. x ∷ xs) (all_of others)
+-- ---- Entry lines on their own
 
--- the entry that each of these lines gives
-abbrev pub entries_given : Sizes → List (ℕ × List ℕ) → List (Option Entry)
-entries_given sizes lines = map (λ (line : ℕ × List ℕ). entry_within sizes line.1) lines
+-- The rule that an entry line breaks on its own: those of an entry line without the one on places that were named before.
+abbrev pub own_code : Form → Sizes → List ℕ → Option ℕ
+own_code form sizes line =
+    first_code
+    ((2, not (is_text line))
+    ∷ (5, not (are_numerals (words_of line)))
+    ∷ (9, not (length (words_of line) == 3))
+    ∷ (10, says (λ n. not (is_inside sizes n)) (three_of line))
+    ∷ (12, says (is_above form) (entry_of line))
+    ∷ [])
 
--- the entries of lines that are not blank, of which as many must be there as the size line says
-abbrev pub entries_in : Sizes → List (ℕ × List ℕ) → Option (List Entry)
-entries_in sizes lines =
-    if nat_le sizes.entries (length lines) then all_of (entries_given sizes (take sizes.entries lines)) else None
+-- the entry with the number of its line, where the line breaks no rule on its own; a line without an entry breaks one
+abbrev pub told_as : ℕ → Option ℕ → Option Entry → Result Listed MarketFault
+told_as n (Some code) entry = Err (fault_at n code)
+told_as n None None = Err (fault_at n 9)
+told_as n None (Some entry) = Ok (record { entry = entry; line = n })
 
--- a refusal where this was looked for: the fault of line 0 and code 20 where there is none, or want of memory
-abbrev pub IsRefusalOf : {A : Type 0} → Option A → MarketRefused → Type 0
-IsRefusalOf sought refusals.Memory = Unit {0}
-IsRefusalOf sought (refusals.Fault fault) = (fault ≡ record { line = 0; code = 20 }) × (sought ≡ None)
+-- what an entry line says on its own
+abbrev pub told : Form → Sizes → ℕ × List ℕ → Result Listed MarketFault
+told form sizes line = told_as line.0 (own_code form sizes line.1) (entry_of line.1)
+
+-- ---- All entry lines
+
+-- entries, and the fault behind them if there is one
+abbrev pub Found : Type 0
+Found = List Listed × Option MarketFault
+
+-- what a first line gives together with what the others give, which are not read where it breaks a rule
+abbrev pub with_first : Result Listed MarketFault → Found → Found
+with_first (Err fault) others = ([], Some fault)
+with_first (Ok one) others = (one ∷ others.0, others.1)
+
+-- The entries of so many lines, up to the first that breaks a rule on its own, with that fault; 13 where lines are missing, at
+-- the line after the last.
+abbrev pub gathered : Form → Sizes → ℕ → ℕ → List (ℕ × List ℕ) → Found
+gathered form sizes end zero lines = ([], None)
+gathered form sizes end (suc n) [] = ([], Some (fault_at end 13))
+gathered form sizes end (suc n) (line ∷ lines) = with_first (told form sizes line) (gathered form sizes end n lines)
+
+-- the entries of the next so many lines that are not blank, in a text behind m lines
+abbrev pub gathered_at : Form → Sizes → ℕ → ℕ → List ℕ → Found
+gathered_at form sizes n m rest = gathered form sizes (line_after m rest) n (filled (lines_behind m rest))
+
+-- the line of the last of these entries, and n where there is none
+abbrev pub last_line : ℕ → List Listed → ℕ
+last_line n [] = n
+last_line n (one ∷ ones) = last_line one.line ones
+
+-- What a block gives: the first repeated place is told before the fault behind the entries.
+abbrev pub judged : Option ℕ → Option MarketFault → Block → Result Block MarketFault
+judged (Some line) stop block = Err (fault_at line 11)
+judged None (Some fault) block = Err fault
+judged None None block = Ok block

@@ -1,19 +1,26 @@
 ghost use Rattle.std.specs.Prelude.{◌≡◌, ◌&&◌, codes, map};
 ghost use Rattle.mm_text.specs.Lines.{words_of};
-ghost use Rattle.mm_text.specs.Block.{small_letter, is_word, form_named, banner_form, banner_in};
-ghost use Rattle.mm_text.specs.Steps.{found};
+ghost use Rattle.mm_text.specs.Block.{small_letter, is_word, form_named, banner_form, banner_in, fault_at};
 
+use crate::codes::{BANNER, NOT_TEXT};
 use crate::lines::{is_text, next_word};
-use crate::market::Form;
+use crate::market::{Form, MarketFault};
 
 // The form that a banner names.
-pub(crate) fn read_banner(line: &[u8]) -> Option<Form>
-    ensures { result ≡ found (banner_in line.now) }
+pub(crate) fn read_banner(line: &[u8]) -> Result<Form, MarketFault>
+    ensures { result ≡ banner_in line.now }
 {
     if !is_text(line) {
-        return None;
+        return Err(first_fault(NOT_TEXT));
     }
-    five_words(line)
+    five_words(line).ok_or(first_fault(BANNER))
+}
+
+// A fault of the first line.
+fn first_fault(code: u32) -> MarketFault
+    ensures { result ≡ fault_at 1 code }
+{
+    MarketFault { line: 1, code }
 }
 
 fn five_words(line: &[u8]) -> Option<Form>

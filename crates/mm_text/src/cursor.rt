@@ -1,8 +1,10 @@
-ghost use Rattle.std.specs.Prelude.{◌≡◌, ◌+◌, ◌<◌, ◌^◌, [], ◌∷◌, length, IfSome, IfNone};
-ghost use Rattle.mm_text.specs.Block.{is_note, is_empty_line};
-ghost use Rattle.mm_text.specs.Steps.{Passes, lines_behind, is_passed, from_line};
+ghost use Rattle.std.specs.Prelude.{◌≡◌, ◌+◌, ◌<◌, ◌^◌, [], ◌∷◌, length, IfSome, IfNone, IfOk, IfErr};
+ghost use Rattle.mm_text.specs.Block.{is_note, is_empty_line, fault_at};
+ghost use Rattle.mm_text.specs.Steps.{Passes, lines_behind, is_passed, from_line, line_after};
 
+use crate::codes::CUT_SHORT;
 use crate::lines::{next_line, next_word};
+use crate::market::MarketFault;
 
 // Where a reader stands between two lines: how many lines it has passed, and the text behind them.
 #[derive(Clone, Copy)]
@@ -48,19 +50,23 @@ fn is_empty_line(line: &[u8]) -> bool
     next_word(line).is_none()
 }
 
-// The next line that is not passed over, and the place behind it.
-pub(crate) fn next_filled(from: Cursor, comments: bool) -> Option<(&[u8], Cursor)>
-    requires { from.passed + length from.rest.now < 2 ^ 64 }
-    ensures line { IfSome result (λ cut. from_line comments (lines_behind from.entry.passed from.entry.rest.now) ≡ (cut.1.passed, cut.0.now) ∷ lines_behind cut.1.passed cut.1.rest.now) }
-    ensures passes { IfSome result (λ cut. Passes from.entry.passed from.entry.rest.now cut.1.passed cut.1.rest.now) }
-    ensures none { IfNone result (from_line comments (lines_behind from.entry.passed from.entry.rest.now) ≡ []) }
+// The next line that is not passed over, and the place behind it; else the fault that the text ends before it.
+pub(crate) fn next_filled(from: Cursor, comments: bool) -> Result<(&[u8], Cursor), MarketFault>
+    requires { from.passed + length from.rest.now + 1 < 2 ^ 64 }
+    ensures line { IfOk result (λ cut. from_line comments (lines_behind from.entry.passed from.entry.rest.now) ≡ (cut.1.passed, cut.0.now) ∷ lines_behind cut.1.passed cut.1.rest.now) }
+    ensures passes { IfOk result (λ cut. Passes from.entry.passed from.entry.rest.now cut.1.passed cut.1.rest.now) }
+    ensures none { IfErr result (λ fault. from_line comments (lines_behind from.entry.passed from.entry.rest.now) ≡ []) }
+    ensures end { IfErr result (λ fault. fault ≡ fault_at (line_after from.entry.passed from.entry.rest.now) 13) }
 {
     let mut at = from;
     while let Some((line, behind)) = cut_line(at) {
         if !is_passed(comments, line) {
-            return Some((line, behind));
+            return Ok((line, behind));
         }
         at = behind;
     }
-    None
+    Err(MarketFault {
+        line: at.passed + 1,
+        code: CUT_SHORT,
+    })
 }

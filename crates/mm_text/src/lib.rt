@@ -5,6 +5,7 @@
 
 mod banner;
 mod buffer;
+mod codes;
 mod cursor;
 mod entries;
 mod head;

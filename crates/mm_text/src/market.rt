@@ -1,5 +1,5 @@
 ghost use Rattle.std.specs.Prelude.{◌≡◌};
-ghost use Rattle.mm_text.specs.declared.market.MarketRefused.TheVariants.{Memory};
+ghost use Rattle.mm_text.specs.declared.market.MarketRefused.TheVariants.{Fault, Memory};
 
 use cht_ids::List;
 use std::alloc::{AllocError, AllocFailed};
@@ -60,12 +60,12 @@ pub enum MarketRefused {
     Memory,
 }
 
-impl MarketRefused {
-    /// No block stands at the front of the text. Its one fault has line 0 and code 20.
-    pub(crate) const NO_BLOCK: MarketRefused = MarketRefused::Fault(MarketFault {
-        line: 0,
-        code: 20,
-    });
+impl From<MarketFault> for MarketRefused {
+    ghost from_gives = { λ fault refused. refused ≡ Fault fault };
+
+    fn from(fault: MarketFault) -> MarketRefused {
+        MarketRefused::Fault(fault)
+    }
 }
 
 impl From<AllocError> for MarketRefused {

@@ -1,7 +1,12 @@
 ghost use Rattle.std.specs.Prelude.{IfOk, IfErr};
-ghost use Rattle.mm_text.specs.Reading.{IsBlockRead, IsBlockRefused};
+ghost use Rattle.mm_text.specs.Reading.{IsBlockRead, IsBlockRefused, IsPlaced};
 
-use crate::market::{MarketRead, MarketRefused};
+use crate::codes::REPEATED;
+use crate::entries::{Gathered, read_entries};
+use crate::head::read_head;
+use crate::market::{Market, MarketFault, MarketRead, MarketRefused};
+use crate::places::{numbers, sort_by_place};
+use cht_ids::List;
 use std::alloc::Global;
 
 /// Reads the block at the front of the bytes: a banner in any ASCII case, the line `rows columns entries`, and that many
@@ -10,14 +15,40 @@ use std::alloc::Global;
 /// size line, and blank lines anywhere behind the banner.
 ///
 /// Rows and columns lie from 1 to the grid. Entries come in any order and name no place twice; zeros count as entries
-/// and are dropped. A symmetric block is square and lists places on or below the diagonal. The entries that are answered
-/// count from 1, stand by row and then by column, and are those of the text. Lines and bytes are counted up to the last
-/// entry line, or the size line where there is none, with its line feed. A fault is the first line that breaks a rule,
-/// counted from 1 at the banner, with the least code there.
+/// and are dropped. A symmetric block is square, and lists places on or below the diagonal. The entries that are
+/// answered count from 1 and stand by row and then by column; those of a symmetric block stay on and below the diagonal.
+/// Lines and bytes are counted up to the last entry line, or the size line where there is none, with its line feed.
+///
+/// A fault is the first line that breaks a rule, counted from 1 at the banner, with the least code there.
 pub fn read_market(alloc: Global, bytes: &[u8], grid: u32) -> Result<MarketRead, MarketRefused>
     ensures found { IfOk result (λ read. IsBlockRead grid bytes.now read) }
     ensures fault { IfErr result (λ refused. IsBlockRefused grid bytes.now refused) }
+    ensures line { IfErr result (λ refused. IsPlaced bytes.now refused) }
 {
-    let _ = (alloc, bytes.len(), grid);
-    Err(MarketRefused::Memory)
+    let head = read_head(grid, bytes)?;
+    let Gathered {
+        mut listed,
+        stop,
+        end,
+    } = read_entries(alloc, head.form, head.sizes, head.behind)?;
+    if let Some(line) = sort_by_place(&mut listed) {
+        return Err(MarketRefused::Fault(MarketFault {
+            line,
+            code: REPEATED,
+        }));
+    }
+    if let Some(fault) = stop {
+        return Err(MarketRefused::Fault(fault));
+    }
+    let entries = numbers(alloc, &listed)?;
+    Ok(MarketRead {
+        market: Market {
+            form: head.form,
+            rows: head.sizes.rows,
+            columns: head.sizes.columns,
+            entries: List::from_vec(entries),
+        },
+        lines: end.passed,
+        bytes: (bytes.len() - end.rest.len()) as u64,
+    })
 }

@@ -1,6 +1,6 @@
 use Rattle.std.proofs.Common.{refl, sym, ap, ◌∙◌, arith}
-use Rattle.mm_text.specs.Steps.{from_line}
-use Rattle.mm_text.proofs.Cursors.{Passes-none, Passes-then, Passes-count, from_line-passed, from_line-here}
+use Rattle.mm_text.specs.Block.{fault_at}
+use Rattle.mm_text.proofs.Cursors.{Passes-none, Passes-then, Passes-count, from_line-passed, from_line-here, end_line}
 use Rattle.mm_text.proofs.cursor.next_filled.Goals as goal
 
 pub loop-line-init : goal.loop-line-init
@@ -25,5 +25,5 @@ loop-line-preserved c = record {
   same = c.loop-line.invariant.same ∙ from_line-passed c.args.comments _ _ _ _ c.in-Some.ensures.line (sym c.if-not-is_passed.ensures);
 }
 
-pub returns-clause-none : goal.returns-clause-none
-returns-clause-none c = c.loop-line.invariant.same ∙ ap (from_line c.args.comments) c.in_default.ensures.none
+pub returns-clause-end : goal.returns-clause-end
+returns-clause-end c = ap (λ n. fault_at n 13) (end_line _ _ _ _ c.loop-line.invariant.passes c.in_default.ensures.none)

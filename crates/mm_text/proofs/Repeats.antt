@@ -1,0 +1,367 @@
+-- The first repeat in the order of a text is the least line of those that name the place of their neighbour, where the
+-- entries stand in the order of their places and lines.
+use Rattle.std.proofs.Common.{◌≡◌, ◌⊎◌, inl, inr, ℕ, zero, suc, ◌+◌, ◌*◌, ◌^◌, ◌<◌, ◌≤◌, min, Bool, true, false, cond, eqb, List, [], ◌∷◌, ◌++◌, length, get_or, Option, None, Some, IsPermutation, refl, sym, ap, ◌∙◌, subst, arith}
+use Rattle.std.specs.Prelude.{Contains}
+use Rattle.std.specs.List.{list_any, AllByRecursion, IsDistinct}
+use Rattle.std.specs.List.Sorted.{IsNonDecreasingBy}
+use Rattle.std.proofs.lemmas.Bool.{cases_Bool, cond_both, cond-true, cond-false, and_from, or_cases, or_left, or_right, both_ways, true≢false, eqb-true, eqb-false, eq-eqb, lt-ltb, false_from_ne_true}
+use Rattle.std.proofs.lemmas.Bool.Decides.{nat_tests}
+use Rattle.std.proofs.lemmas.List.Folds.{list_any-append}
+use Rattle.std.proofs.lemmas.List.Sorted.{Contains-permutation, IsPermutation-sym}
+use Rattle.std.proofs.lemmas.Map.Keys.{IsDistinct-IsPermutation}
+use Rattle.mm_text.specs.declared.places.Listed.{Listed}
+use Rattle.mm_text.specs.Places.{place_of, rise, entries_of, AreListed, repeats, first_repeat, rank_of, sooner, least_repeat}
+use Rattle.mm_text.proofs.Order.{same_place, other_place}
+
+-- ---- Among a list
+
+abbrev Among : List Listed → Listed → Type 0
+Among [] x = ⊥
+Among (y ∷ ys) x = (y ≡ x) ⊎ Among ys x
+
+among-from : (xs : List Listed) (x : Listed) → Contains xs x → Among xs x
+among-from [] x (k, lt, is) = absurd (omega arith)
+among-from (y ∷ ys) x (zero, lt, is) = inl is
+among-from (y ∷ ys) x (suc k, lt, is) = inr (among-from ys x (k, omega arith, is))
+
+contains-from : (xs : List Listed) (x : Listed) → Among xs x → Contains xs x
+contains-from [] x h = absurd h
+contains-from (y ∷ ys) x (inl is) = (zero, omega arith, is)
+contains-from (y ∷ ys) x (inr h) = let (k, lt, is) = contains-from ys x h in (suc k, omega arith, is)
+
+among-permuted : (xs ys : List Listed) (x : Listed) → IsPermutation xs ys → Among xs x → Among ys x
+among-permuted xs ys x p h = among-from ys x (Contains-permutation xs ys x p (contains-from xs x h))
+
+-- ---- One entry repeats another
+
+-- an entry of the list names the place of one whose line is earlier
+record IsRepeat (xs : List Listed) (x y : Listed) : Type 0 where
+  here : Among xs x
+  there : Among xs y
+  place : place_of y.entry ≡ place_of x.entry
+  earlier : y.line < x.line
+
+-- some entry with this line does
+record IsRepeatLine (xs : List Listed) (n : ℕ) : Type 0 where
+  late : Listed
+  early : Listed
+  pair : IsRepeat xs late early
+  line : late.line ≡ n
+
+later_pair : (z : Listed) (xs : List Listed) (n : ℕ) → IsRepeatLine xs n → IsRepeatLine (z ∷ xs) n
+later_pair z xs n p = record {
+  late = p.late;
+  early = p.early;
+  pair = record { here = inr p.pair.here; there = inr p.pair.there; place = p.pair.place; earlier = p.pair.earlier };
+  line = p.line;
+}
+
+permuted_pair : (xs ys : List Listed) (x y : Listed) → IsPermutation xs ys → IsRepeat xs x y → IsRepeat ys x y
+permuted_pair xs ys x y p r = record {
+  here = among-permuted xs ys x p r.here;
+  there = among-permuted xs ys y p r.there;
+  place = r.place;
+  earlier = r.earlier;
+}
+
+-- ---- The least number
+
+-- there is a number, and it is at most n
+abbrev AtMost : Option ℕ → ℕ → Type 0
+AtMost None n = ⊥
+AtMost (Some m) n = m ≤ n
+
+same_least : (o p : Option ℕ) → ((n : ℕ) → o ≡ Some n → AtMost p n) → ((n : ℕ) → p ≡ Some n → AtMost o n) → o ≡ p
+same_least None None h k = refl
+same_least None (Some n) h k = absurd (k n refl)
+same_least (Some n) None h k = absurd (h n refl)
+same_least (Some m) (Some n) h k = let e : m ≡ n = omega (arith, h m refl, k n refl) in ap Some e
+
+sooner-kept : (found : Option ℕ) (line n : ℕ) → AtMost found n → AtMost (sooner found line) n
+sooner-kept None line n h = absurd h
+sooner-kept (Some m) line n h = omega (arith, h)
+
+sooner-new : (found : Option ℕ) (line n : ℕ) → line ≤ n → AtMost (sooner found line) n
+sooner-new None line n le = le
+sooner-new (Some m) line n le = omega (arith, le)
+
+sooner-one : (found : Option ℕ) (line n : ℕ) → sooner found line ≡ Some n → (found ≡ Some n) ⊎ (line ≡ n)
+sooner-one None line n h = inr cc
+sooner-one (Some m) line n h =
+    let e : min m line ≡ n = cc in
+    elim (cases_Bool (eqb m n)) [ inl same ↦ inl (ap Some (eqb-true m n same)) | inr other ↦ inr (let ne = eqb-false m n other in omega arith) ]
+
+-- ---- Neighbours, in the order of places and lines
+
+-- the ranks do not fall, and none is below k
+abbrev pub RanksFrom : ℕ → List Listed → Type 0
+RanksFrom k [] = Unit {0}
+RanksFrom k (x ∷ xs) = (k ≤ rank_of x) × RanksFrom (rank_of x) xs
+
+-- lines have 64 bits
+abbrev AreBounded : List Listed → Type 0
+AreBounded = AllByRecursion (λ (x : Listed). x.line < 2 ^ 64)
+
+-- no two have the same line
+abbrev SameLine : Listed → Listed → Bool
+SameLine x y = eqb x.line y.line
+
+abbrev HaveOwnLines : List Listed → Type 0
+HaveOwnLines [] = Unit {0}
+HaveOwnLines (x ∷ xs) = AllByRecursion (λ y. SameLine x y ≡ false) xs × HaveOwnLines xs
+
+rank-among : (k : ℕ) (xs : List Listed) (x : Listed) → RanksFrom k xs → Among xs x → k ≤ rank_of x
+rank-among k [] x r h = absurd h
+rank-among k (y ∷ ys) x r (inl is) = subst (λ (z : Listed). k ≤ rank_of z) is r.0
+rank-among k (y ∷ ys) x r (inr h) = let le = rank-among (rank_of y) ys x r.1 h in omega (arith, r.0, le)
+
+bounded-among : (xs : List Listed) (x : Listed) → AreBounded xs → Among xs x → x.line < 2 ^ 64
+bounded-among [] x b h = absurd h
+bounded-among (y ∷ ys) x b (inl is) = subst (λ (z : Listed). z.line < 2 ^ 64) is b.0
+bounded-among (y ∷ ys) x b (inr h) = bounded-among ys x b.1 h
+
+-- numbers that stand between two of one place
+between_same : (p q a b c : ℕ) → a < 2 ^ 64 → b < 2 ^ 64 → c < 2 ^ 64 → p * 2 ^ 64 + a ≤ q * 2 ^ 64 + b → q * 2 ^ 64 + b ≤ p * 2 ^ 64 + c → (q ≡ p) × (b ≤ c)
+between_same p q a b c la lb lc le me = (omega arith, omega arith)
+
+ordered_same : (p q a b : ℕ) → p ≡ q → p * 2 ^ 64 + a ≤ q * 2 ^ 64 + b → a ≤ b
+ordered_same p q a b e le = omega arith
+
+ordered_other : (p q a b : ℕ) → a < 2 ^ 64 → b < 2 ^ 64 → (p ≡ q → ⊥) → p * 2 ^ 64 + a ≤ q * 2 ^ 64 + b → p < q
+ordered_other p q a b la lb ne le = elim (cases_Bool (eqb p q)) [ inl same ↦ absurd (ne (eqb-true p q same)) | inr other ↦ (let no = eqb-false p q other in omega arith) ]
+
+-- what was found stays the bound
+least-kept : (found : Option ℕ) (xs : List Listed) (n : ℕ) → AtMost found n → AtMost (least_repeat found xs) n
+least-kept found [] n h = h
+least-kept found (x ∷ []) n h = h
+least-kept found (x ∷ y ∷ ys) n h =
+    least-kept (cond (eqb (place_of x.entry) (place_of y.entry)) (sooner found y.line) found) (y ∷ ys) n
+    (cond_both (eqb (place_of x.entry) (place_of y.entry)) (sooner found y.line) found (λ o. AtMost o n) (λ _. sooner-kept found y.line n h) (λ _. h))
+
+-- no repeat has a lesser line
+least-pair : (found : Option ℕ) (xs : List Listed) (k : ℕ) (x y : Listed) → RanksFrom k xs → AreBounded xs → IsRepeat xs x y → AtMost (least_repeat found xs) x.line
+least-pair found [] k x y r b p = absurd p.here
+least-pair found (z ∷ []) k x y r b p =
+    elim p.here [
+      | inl is ↦ elim p.there [ inl same ↦ absurd (omega (arith, p.earlier, ap (λ (w : Listed). w.line) is, ap (λ (w : Listed). w.line) same)) | inr none ↦ absurd none ]
+      | inr none ↦ absurd none
+    ]
+least-pair found (z ∷ w ∷ ws) k x y r b p =
+    let rest : Among (w ∷ ws) x → Among (w ∷ ws) y → AtMost (least_repeat found (z ∷ w ∷ ws)) x.line = λ here there.
+    least-pair (cond (eqb (place_of z.entry) (place_of w.entry)) (sooner found w.line) found) (w ∷ ws) (rank_of z) x y r.1 b.1 (record { here = here; there = there; place = p.place; earlier = p.earlier }) in
+    let first : z ≡ y → Among (w ∷ ws) x → AtMost (least_repeat found (z ∷ w ∷ ws)) x.line = λ is here.
+    let place : place_of x.entry ≡ place_of z.entry = sym (ap (λ (v : Listed). place_of v.entry) is ∙ p.place) in
+    let low = r.1.0 in
+    let high = rank-among (rank_of w) (w ∷ ws) x (omega arith, r.1.1) here in
+    let s = between_same (place_of z.entry) (place_of w.entry) z.line w.line x.line b.0 b.1.0 (bounded-among (w ∷ ws) x b.1 here) low
+    (subst (λ q. place_of w.entry * 2 ^ 64 + w.line ≤ q * 2 ^ 64 + x.line) place high) in
+    let test : eqb (place_of z.entry) (place_of w.entry) ≡ true = eq-eqb _ _ (sym s.0) in
+    least-kept (cond (eqb (place_of z.entry) (place_of w.entry)) (sooner found w.line) found) (w ∷ ws) x.line
+    (subst (λ o. AtMost o x.line) (sym (cond-true _ (sooner found w.line) found test)) (sooner-new found w.line x.line s.1)) in
+    elim p.here [
+      | inl here ↦ elim p.there [
+        | inl there ↦ absurd (omega (arith, p.earlier, ap (λ (v : Listed). v.line) here, ap (λ (v : Listed). v.line) there))
+        | inr there ↦
+            let le = rank-among (rank_of z) (w ∷ ws) y r.1 there in
+            let same : rank_of z ≡ rank_of x = ap rank_of here in
+            let place = p.place in
+            let early = ordered_same (place_of x.entry) (place_of y.entry) x.line y.line (sym place) (subst (λ q. q ≤ rank_of y) same le) in
+            absurd (omega (arith, p.earlier, early))
+      ]
+      | inr here ↦ elim p.there [ inl there ↦ first there here | inr there ↦ rest here there ]
+    ]
+
+-- what is found is one
+least-there : (found : Option ℕ) (xs : List Listed) (k n : ℕ) → RanksFrom k xs → HaveOwnLines xs → least_repeat found xs ≡ Some n → (found ≡ Some n) ⊎ IsRepeatLine xs n
+least-there found [] k n r own h = inl h
+least-there found (x ∷ []) k n r own h = inl h
+least-there found (x ∷ y ∷ ys) k n r own h =
+    let b = eqb (place_of x.entry) (place_of y.entry) in
+    elim (least-there (cond b (sooner found y.line) found) (y ∷ ys) (rank_of x) n r.1 own.1 h) [
+      | inr pair ↦ inr (later_pair x (y ∷ ys) n pair)
+      | inl e ↦ elim (cases_Bool b) [
+        | inr other ↦ inl (sym (cond-false b (sooner found y.line) found other) ∙ e)
+        | inl same ↦ elim (sooner-one found y.line n (sym (cond-true b (sooner found y.line) found same) ∙ e)) [
+          | inl before ↦ inl before
+          | inr line ↦
+              let place = eqb-true _ _ same in
+              let le = ordered_same (place_of x.entry) (place_of y.entry) x.line y.line place r.1.0 in
+              let ne = eqb-false x.line y.line own.0.0 in
+              inr (record { late = y; early = x; pair = record { here = inr (inl refl); there = inl refl; place = place; earlier = omega (arith, le, ne) }; line = line })
+        ]
+      ]
+    ]
+
+-- ---- The order of the text
+
+later-among : (n : ℕ) (xs : List Listed) (x : Listed) → AreListed n xs → Among xs x → n < x.line
+later-among n [] x r h = absurd h
+later-among n (y ∷ ys) x r (inl is) = subst (λ (z : Listed). n < z.line) is r.0
+later-among n (y ∷ ys) x r (inr h) = let lt = later-among y.line ys x r.3 h in omega (arith, lt, r.0)
+
+narrow-among : (n : ℕ) (xs : List Listed) (x : Listed) → AreListed n xs → Among xs x → x.entry.column < 2 ^ 32
+narrow-among n [] x r h = absurd h
+narrow-among n (y ∷ ys) x r (inl is) = subst (λ (z : Listed). z.entry.column < 2 ^ 32) is r.2
+narrow-among n (y ∷ ys) x r (inr h) = narrow-among y.line ys x r.3 h
+
+-- a place that one of these names, or that an earlier one of the others names
+abbrev IsNamed : List Listed → List Listed → Listed → Type 0
+IsNamed before xs x =
+    (list_any (repeats x) before ≡ true) ⊎ ((y : Listed) × Among xs y × (place_of y.entry ≡ place_of x.entry) × (y.line < x.line))
+
+any-more : (x z : Listed) (before : List Listed) → (list_any (repeats x) before ≡ true) ⊎ (repeats x z ≡ true) → list_any (repeats x) (before ++ z ∷ []) ≡ true
+any-more x z before (inl h) = list_any-append (repeats x) before (z ∷ []) ∙ or_left _ _ h
+any-more x z before (inr h) = list_any-append (repeats x) before (z ∷ []) ∙ or_right (list_any (repeats x) before) _ (or_left (repeats x z) false h)
+
+any-less : (x z : Listed) (before : List Listed) → list_any (repeats x) (before ++ z ∷ []) ≡ true → (list_any (repeats x) before ≡ true) ⊎ (repeats x z ≡ true)
+any-less x z before h =
+    elim (or_cases (list_any (repeats x) before) (list_any (repeats x) (z ∷ [])) (sym (list_any-append (repeats x) before (z ∷ [])) ∙ h)) [
+      | inl there ↦ inl there
+      | inr here ↦ elim (or_cases (repeats x z) false here) [ inl one ↦ inr one | inr none ↦ absurd (true≢false (sym none)) ]
+    ]
+
+-- no repeat has a lesser line
+first-pair : (n : ℕ) (before xs : List Listed) (x : Listed) → AreListed n xs → Among xs x → IsNamed before xs x → AtMost (first_repeat before xs) x.line
+first-pair n before [] x r h named = absurd h
+first-pair n before (z ∷ zs) x r h named =
+    cond_both (list_any (repeats z) before) (Some z.line) (first_repeat (before ++ z ∷ []) zs) (λ o. AtMost o x.line)
+    (λ _. elim h [ inl is ↦ omega (arith, ap (λ (v : Listed). v.line) is) | inr there ↦ (let lt = later-among z.line zs x r.3 there in omega (arith, lt)) ])
+    (λ none. elim h [
+      | inl is ↦ elim named [
+        | inl any ↦ absurd (both_ways _ none (subst (λ (v : Listed). list_any (repeats v) before ≡ true) (sym is) any))
+        | inr (y, there, place, lt) ↦ elim there [
+          | inl same ↦ absurd (omega (arith, lt, ap (λ (v : Listed). v.line) is, ap (λ (v : Listed). v.line) same))
+          | inr after ↦ absurd (let later = later-among z.line zs y r.3 after in omega (arith, lt, later, ap (λ (v : Listed). v.line) is))
+        ]
+      ]
+      | inr there ↦ first-pair z.line (before ++ z ∷ []) zs x r.3 there (elim named [
+        | inl any ↦ inl (any-more x z before (inl any))
+        | inr (y, among, place, lt) ↦ elim among [
+          | inl same ↦
+              inl (any-more x z before (inr (other_place x.entry z.entry (narrow-among z.line zs x r.3 there) r.2 (ap (λ (v : Listed). place_of v.entry) same ∙ place))))
+          | inr after ↦ inr (y, after, place, lt)
+        ]
+      ])
+    ])
+
+-- what is found is one
+record IsFirstRepeat (before xs : List Listed) (n : ℕ) : Type 0 where
+  late : Listed
+  here : Among xs late
+  named : IsNamed before xs late
+  line : late.line ≡ n
+
+first-there : (n : ℕ) (before xs : List Listed) (m : ℕ) → AreListed n xs → first_repeat before xs ≡ Some m → IsFirstRepeat before xs m
+first-there n before [] m r h = absurd cc
+first-there n before (z ∷ zs) m r h =
+    elim (cases_Bool (list_any (repeats z) before)) [
+      | inl any ↦
+          let e : Some z.line ≡ Some m = sym (cond-true _ (Some z.line) (first_repeat (before ++ z ∷ []) zs) any) ∙ h in
+          record { late = z; here = inl refl; named = inl any; line = cc }
+      | inr none ↦
+          let p = first-there z.line (before ++ z ∷ []) zs m r.3 (sym (cond-false _ (Some z.line) (first_repeat (before ++ z ∷ []) zs) none) ∙ h) in
+          record {
+            late = p.late;
+            here = inr p.here;
+            named = elim p.named [
+              | inr (y, there, place, lt) ↦ inr (y, inr there, place, lt)
+              | inl any ↦ elim (any-less p.late z before any) [
+                | inl old ↦ inl old
+                | inr one ↦ inr (z, inl refl, same_place p.late.entry z.entry one, later-among z.line zs p.late r.3 p.here)
+              ]
+            ];
+            line = p.line;
+          }
+    ]
+
+-- ---- Both orders
+
+listed-bounded : (n : ℕ) (xs : List Listed) → AreListed n xs → AreBounded xs
+listed-bounded n [] r = tt
+listed-bounded n (x ∷ xs) r = (r.1, listed-bounded x.line xs r.3)
+
+later-lines : (m n : ℕ) (xs : List Listed) (x : Listed) → x.line ≡ m → m ≤ n → AreListed n xs → AllByRecursion (λ y. SameLine x y ≡ false) xs
+later-lines m n [] x e le r = tt
+later-lines m n (y ∷ ys) x e le r =
+    (false_from_ne_true _ (λ same. let s = eqb-true x.line y.line same in omega (arith, s, e, le, r.0)), later-lines m y.line ys x e (omega (arith, le, r.0)) r.3)
+
+listed-distinct : (n : ℕ) (xs : List Listed) → AreListed n xs → IsDistinct SameLine xs
+unfolding IsDistinct
+listed-distinct n [] r = tt
+listed-distinct n (x ∷ xs) r = (later-lines x.line x.line xs x refl (omega arith) r.3, listed-distinct x.line xs r.3)
+
+own_from_distinct : (xs : List Listed) → IsDistinct SameLine xs → HaveOwnLines xs
+unfolding IsDistinct
+own_from_distinct [] h = tt
+own_from_distinct (x ∷ xs) h = (h.0, own_from_distinct xs h.1)
+
+eqb_flips : (a b : ℕ) → eqb a b ≡ eqb b a
+eqb_flips a b = grind (arith, nat_tests)
+
+SameLine_flips : (x y : Listed) → SameLine x y ≡ SameLine y x
+SameLine_flips x y = eqb_flips x.line y.line
+
+all-among : (xs ys : List Listed) → ((x : Listed) → Among ys x → Among xs x) → AreBounded xs → AreBounded ys
+all-among xs [] h b = tt
+all-among xs (y ∷ ys) h b = (bounded-among xs y b (h y (inl refl)), all-among xs ys (λ x there. h x (inr there)) b)
+
+permuted-bounded : (n : ℕ) (xs ys : List Listed) → IsPermutation xs ys → AreListed n xs → AreBounded ys
+permuted-bounded n xs ys p listed = all-among xs ys (λ x there. among-permuted ys xs x (IsPermutation-sym xs ys p) there) (listed-bounded n xs listed)
+
+-- the first repeat of a text, from its entries in the order of their places and lines
+pub first_repeat_sorted : (n : ℕ) (xs ys : List Listed) → IsPermutation xs ys → AreListed n xs → RanksFrom 0 ys → least_repeat None ys ≡ first_repeat [] xs
+first_repeat_sorted n xs ys p listed ranks =
+    let bounded = permuted-bounded n xs ys p listed in
+    let own = own_from_distinct ys (IsDistinct-IsPermutation SameLine SameLine_flips xs ys p (listed-distinct n xs listed)) in
+    same_least (least_repeat None ys) (first_repeat [] xs)
+    (λ m found. elim (least-there None ys 0 m ranks own found) [
+      | inl none ↦ absurd cc
+      | inr pair ↦
+          let back = permuted_pair ys xs pair.late pair.early (IsPermutation-sym xs ys p) pair.pair in
+          subst (AtMost (first_repeat [] xs)) pair.line (first-pair n [] xs pair.late listed back.here (inr (pair.early, back.there, back.place, back.earlier)))
+    ])
+    (λ m found.
+    let one = first-there n [] xs m listed found in
+    elim one.named [
+      | inl none ↦ absurd (true≢false (sym none))
+      | inr (y, there, place, lt) ↦
+          let pair : IsRepeat xs one.late y = record { here = one.here; there = there; place = place; earlier = lt } in
+          subst (AtMost (least_repeat None ys)) one.line (least-pair None ys 0 one.late y ranks bounded (permuted_pair xs ys one.late y p pair))
+    ])
+
+-- sorted entries by their ranks
+pub ranks_from_sorted : (xs : List Listed) (k : ℕ) → IsNonDecreasingBy rank_of xs → ((d : Listed) → 0 < length xs → k ≤ rank_of (get_or xs 0 d)) → RanksFrom k xs
+ranks_from_sorted [] k h low = tt
+ranks_from_sorted (x ∷ xs) k h low =
+    (low x (omega arith), ranks_from_sorted xs (rank_of x) (λ i j d le lt. h (suc i) (suc j) d (omega arith) (omega arith)) (λ d some. h zero (suc zero) d (omega arith) (omega arith)))
+
+-- ---- Without repeats
+
+least-some : (m : ℕ) (xs : List Listed) → least_repeat (Some m) xs ≡ None → ⊥
+least-some m xs h = subst (λ o. AtMost o m) h (least-kept (Some m) xs m (omega arith))
+
+least-sooner : (found : Option ℕ) (line : ℕ) (xs : List Listed) → least_repeat (sooner found line) xs ≡ None → ⊥
+least-sooner None line xs h = least-some line xs h
+least-sooner (Some m) line xs h = least-some (min m line) xs h
+
+rise-listed : (found : Option ℕ) (xs : List Listed) (k : ℕ) → RanksFrom k xs → AreBounded xs → least_repeat found xs ≡ None → rise (entries_of xs) ≡ true
+rise-listed found [] k r b h = refl
+rise-listed found (x ∷ []) k r b h = refl
+rise-listed found (x ∷ y ∷ ys) k r b h =
+    let test = eqb (place_of x.entry) (place_of y.entry) in
+    elim (cases_Bool test) [
+      | inl same ↦ absurd (least-sooner found y.line (y ∷ ys) (ap (λ o. least_repeat o (y ∷ ys)) (sym (cond-true test (sooner found y.line) found same)) ∙ h))
+      | inr other ↦
+          let rest = ap (λ o. least_repeat o (y ∷ ys)) (sym (cond-false test (sooner found y.line) found other)) ∙ h in
+          and_from _ _ (lt-ltb _ _ (ordered_other (place_of x.entry) (place_of y.entry) x.line y.line b.0 b.1.0 (eqb-false _ _ other) r.1.0)) (rise-listed found (y ∷ ys) (rank_of x) r.1 b.1 rest)
+    ]
+
+-- where no line repeats a place, the places rise
+pub rise_sorted : (n : ℕ) (xs ys : List Listed) → IsPermutation xs ys → AreListed n xs → RanksFrom 0 ys → least_repeat None ys ≡ None → rise (entries_of ys) ≡ true
+rise_sorted n xs ys p listed ranks none = rise-listed None ys 0 ranks (permuted-bounded n xs ys p listed) none
+
+-- fewer than two entries
+pub least_short : (found : Option ℕ) (xs : List Listed) → length xs < 2 → least_repeat found xs ≡ found
+least_short found [] lt = refl
+least_short found (x ∷ []) lt = refl
+least_short found (x ∷ y ∷ ys) lt = absurd (omega arith)
