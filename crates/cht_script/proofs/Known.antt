@@ -10,28 +10,8 @@ use Rattle.cht_script.specs.declared.checked.Shape.{Shape}
 use Rattle.cht_script.specs.declared.names.KnownNames.{KnownNames}
 use Rattle.cht_script.specs.Newest.{newest}
 use Rattle.cht_script.specs.Verdict.{NamedShape, with_shape, has_name, is_known, shape_found, shape_in, is_among}
+use Rattle.cht_script.proofs.Newest.{any_newest, newest-push}
 use Rattle.cht_script.specs.Judging.{look, kept_as, kept_of, Keeps, shape_kept, was_deleted}
-
--- ---- The newest
-
-any_case : {A : Type 0} (b : Bool) (x : A) (o : Option A) (any : Bool) → any ≡ not (is_none o) → (b || any) ≡ not (is_none (or_else o (cond b (Some x) None)))
-any_case true x None any h = refl
-any_case true x (Some y) any h = refl
-any_case false x None any h = h
-any_case false x (Some y) any h = h
-
-pub any_newest : {A : Type 0} (fits : A → Bool) (xs : List A) → list_any fits xs ≡ not (is_none (newest fits xs))
-any_newest fits [] = refl
-any_newest fits (x ∷ xs) = any_case (fits x) x (newest fits xs) (list_any fits xs) (any_newest fits xs)
-
-push_case : {A : Type 0} (b : Bool) (y : A) (o last : Option A) → or_else (cond b (Some y) o) last ≡ cond b (Some y) (or_else o last)
-push_case true y o last = refl
-push_case false y o last = refl
-
-pub newest-push : {A : Type 0} (fits : A → Bool) (xs : List A) (y : A) → newest fits (xs ++ y ∷ []) ≡ cond (fits y) (Some y) (newest fits xs)
-newest-push fits [] y = refl
-newest-push fits (x ∷ xs) y =
-    ap (λ o. or_else o (cond (fits x) (Some x) None)) (newest-push fits xs y) ∙ push_case (fits y) y (newest fits xs) (cond (fits x) (Some x) None)
 
 pub or_none : (b : Bool) → (b || false) ≡ b
 or_none true = refl

@@ -1,3 +1,4 @@
+pub mod Newest
 pub mod Verbs
 pub mod Headings
 pub mod Cells
