@@ -1,13 +1,14 @@
 -- A matrix is given by its cells: the numbers that are not zero.
-use Rattle.std.proofs.Common.{◌≡◌, ℕ, zero, suc, ◌+◌, ◌<◌, true, List, [], ◌∷◌, ◌++◌, refl, sym, ap, ◌∙◌, inl, inr, ℤ, pos, negsuc, arith}
+use Rattle.std.proofs.Common.{◌≡◌, ℕ, zero, suc, ◌+◌, ◌<◌, ◌≤◌, true, false, List, [], ◌∷◌, ◌++◌, refl, sym, ap, ◌∙◌, inl, inr, ℤ, pos, negsuc, arith}
 use Rattle.std.specs.Prelude.{◌==◌, ◌&&◌, if◌then◌else◌}
 use Rattle.std.proofs.lemmas.Bool.{cases_Bool, true≢false, eqb-true}
 use Rattle.std.proofs.lemmas.Bool.Decides.{nat_tests}
+use Rattle.std.specs.List.{filter}
 use Rattle.dense_def.specs.Matrix.{tabulate, made}
 use Rattle.mm_text.specs.declared.market.Cell.{Cell}
 use Rattle.mm_text.specs.declared.market.Entry.{Entry}
 use Rattle.mm_text.specs.Block.{names, value_at}
-use Rattle.mm_text.specs.Cells.{is_zero, cells_of_row, cells_of_rows, cells_of, entry_cells}
+use Rattle.mm_text.specs.Cells.{is_zero, cells_of_row, cells_of_rows, cells_of, is_low, entry_cells}
 
 -- the value of the first cell in this row and column, and 0 where there is none
 abbrev pub look : List Cell → ℕ → ℕ → ℤ
@@ -23,6 +24,10 @@ look-other_column c cells i j other = grind (arith, nat_tests)
 
 look-here : (c : Cell) (cells : List Cell) (i j : ℕ) → c.row ≡ i → c.column ≡ j → look (c ∷ cells) i j ≡ c.value
 look-here c cells i j row column = grind (arith, nat_tests)
+
+-- a cell above the diagonal is of no place on or below it
+look-above : (c : Cell) (cells : List Cell) (i j : ℕ) → j ≤ i → is_low c ≡ false → look (c ∷ cells) i j ≡ look cells i j
+look-above c cells i j le high = grind (arith, nat_tests)
 
 -- entries give what their cells give
 value_at-cells : (entries : List Entry) (i j : ℕ) → value_at entries i j ≡ look (entry_cells entries) i j
@@ -94,3 +99,23 @@ pub value_at-made : (rows columns : ℕ) (f : ℕ → ℕ → ℤ) (entries : Li
 value_at-made rows columns f entries same i j row column =
     value_at-cells entries (i + 1) (j + 1)
     ∙ (ap (λ cells. look cells (i + 1) (j + 1)) same ∙ rows-here columns rows 1 f i j (i + 1) (j + 1) row column (omega arith) (omega arith))
+
+-- ---- On and below the diagonal
+
+look-low : (cells : List Cell) (i j : ℕ) → j ≤ i → look (filter is_low cells) i j ≡ look cells i j
+look-low [] i j le = refl
+look-low (c ∷ cells) i j le =
+    let tail = look-low cells i j le in
+    elim (cases_Bool (is_low c)) [
+      | inl low ↦ rw low (ap (λ rest. if c.row == i && c.column == j then c.value else rest) tail)
+      | inr high ↦ rw high (tail ∙ sym (look-above c cells i j le high))
+    ]
+
+-- the numbers of a matrix on and below the diagonal are those of its cells there
+pub value_at-low : (rows columns : ℕ) (f : ℕ → ℕ → ℤ) (entries : List Entry) → entry_cells entries ≡ filter is_low (cells_of (made rows columns f))
+    → (i j : ℕ) → i < rows → j < columns → j ≤ i → value_at entries (i + 1) (j + 1) ≡ f i j
+value_at-low rows columns f entries same i j row column le =
+    value_at-cells entries (i + 1) (j + 1)
+    ∙ (ap (λ cells. look cells (i + 1) (j + 1)) same
+    ∙ (look-low (cells_of (made rows columns f)) (i + 1) (j + 1) (omega arith)
+    ∙ rows-here columns rows 1 f i j (i + 1) (j + 1) row column (omega arith) (omega arith)))

@@ -1,176 +1,176 @@
--- Which lines are sound, from the names that are bound.
-use Rattle.std.proofs.Common.{◌≡◌, ℕ, Bool, true, false, not, cond, eqb, List, [], ◌∷◌, ◌++◌, length, Option, None, Some, refl, sym, ap, ◌∙◌, inl, inr, arith}
-use Rattle.std.specs.Prelude.{◌&&◌, ◌||◌, is_none, codes, option_map, option_and_then}
-use Rattle.std.specs.List.{list_all}
-use Rattle.std.specs.Str.{bytes_eq}
-use Rattle.std.proofs.lemmas.Bool.{cases_Bool, cond-true, cond-false, true≢false, and_parts, eqb-true}
-use Rattle.mm_text.specs.Lines.{words_of, is_text}
-use Rattle.mm_text.specs.Faults.{first_code}
-use Rattle.cht_script.specs.declared.script.Verb.{Verb}
-use Rattle.cht_script.specs.declared.script.Verb.TheVariants.{Copy, Add, Mul, TMul, MulT, Square, Full, Trace, Count, Print, Delete}
-use Rattle.cht_script.specs.Words.{is_name}
-use Rattle.cht_script.specs.Statements.{Said, Market, Act, said_in, act_with, names_after, verb_named, is_square, shapes_fit, forms_fit}
-use Rattle.cht_script.specs.Items.{Item, Line, Block, fault_at}
-use Rattle.cht_script.specs.Verdict.{NamedShape, is_known, shape_in, deleted_by_verb, deleted_by_line, deleted_by, deleted_after, word_rules, name_rules, is_run_verb, is_run_said, is_run, line_code, item_fault}
-use Rattle.cht_script.specs.Steps.{is_sound_act}
-use Rattle.cht_script.specs.Progress.{IsJudged}
+-- From statement to statement, up to the first whose names break a rule.
+use Rattle.std.proofs.Common.{◌≡◌, ℕ, ◌≤◌, List, [], ◌∷◌, ◌++◌, length, map, Option, None, Some, refl, sym, ap, ◌∙◌, append_assoc, subst, arith}
+use Rattle.std.specs.Prelude.{Result, Ok, Err, OnOk, option_map, is_some, Bool, false, true}
+use Rattle.std.proofs.lemmas.List.{append-nil}
+use Rattle.cht_ids.specs.declared.memory.Memory.{Memory}
+use Rattle.mm_text.specs.Faults.{or_else, first_code}
+use Rattle.cht_script.specs.declared.checked.ScriptRefused.TheVariants as refusals
+use Rattle.cht_script.specs.declared.checked.ScriptRefused.{ScriptRefused}
+use Rattle.cht_script.specs.declared.checked.Shapes.{Shapes}
+use Rattle.cht_script.specs.declared.checked.Step.{Step}
+use Rattle.cht_script.specs.declared.names.Kept.{Kept}
+use Rattle.cht_script.specs.declared.names.KnownNames.{KnownNames}
+use Rattle.cht_script.specs.declared.script.Begun.{Begun}
+use Rattle.cht_script.specs.declared.script.Statement.{Statement}
+use Rattle.cht_script.specs.declared.script.Statement.TheVariants as statements
+use Rattle.cht_script.specs.Items.{fault_at}
+use Rattle.cht_script.specs.Verdict.{NamedShape, is_known, name_rules}
+use Rattle.cht_script.specs.Meaning.{Deed, line_of}
+use Rattle.cht_script.specs.Reading.{name_bytes, deed_of, IsFormed, AreFormed}
+use Rattle.cht_script.specs.Parsing.{begun_told}
+use Rattle.cht_script.specs.Checking.{said_by, known_behind, deleted_behind, name_fault, names_fault, deeds_begun, AreSteps, deed_in}
+use Rattle.cht_script.specs.Judging.{look, Keeps, Goes, HasItsNames, HaveTheirNames, AreShapedAs, AreJudgedTo, with_begun, JudgesAll, step_of, steps_of}
+use Rattle.cht_script.proofs.Known.{none_kept_yet}
+use Rattle.cht_script.proofs.NameRules.{said_sound, found_any}
 
--- ---- Nothing is deleted
+-- what holds after an Ok, where it follows from what does
+pub on_ok : {A B : Type 0} (r : Result (Unit {0}) Memory) → OnOk r A → (A → B) → OnOk r B
+on_ok (Ok x) h next = next h
+on_ok (Err memory) h next = tt
 
--- a statement that is run deletes nothing
-act_keeps : (verb : Verb) (names : List (List ℕ)) → is_run_verb verb ≡ true → deleted_by_verb verb names ≡ []
-act_keeps Copy names h = refl
-act_keeps Add names h = refl
-act_keeps Mul names h = refl
-act_keeps TMul names h = refl
-act_keeps MulT names h = refl
-act_keeps Square names h = refl
-act_keeps Full names h = refl
-act_keeps Trace names h = refl
-act_keeps Count names h = refl
-act_keeps Print names h = refl
-act_keeps Delete names h = absurd (true≢false (sym h))
+-- ---- One more statement
 
-said_keeps : (said : Option Said) → is_run_said said ≡ true → deleted_by_line said ≡ []
-said_keeps None h = refl
-said_keeps (Some (Market names)) h = refl
-said_keeps (Some (Act verb names)) h = act_keeps verb names h
+pub judged_start : (all : List Statement) (names : KnownNames) → ((name : List ℕ) → look name names ≡ None) → HaveTheirNames all → AreJudgedTo all [] names all
+judged_start all names none counted = record {
+  known = [];
+  deleted = [];
+  keeps = none_kept_yet names none;
+  shaped = λ more h. h;
+  same = λ last. refl;
+  counted = counted;
+}
 
-item_keeps : (item : Item) → is_run item ≡ true → deleted_by item ≡ []
-item_keeps (Line n line) h = said_keeps (said_in (words_of line)) h
-item_keeps (Block n listed found) h = refl
+clean_fault : (known : List NamedShape) (deleted : List (List ℕ)) (deed : Deed) → first_code (name_rules known deleted (said_by deed)) ≡ None → name_fault known deleted deed ≡ None
+clean_fault known deleted deed h = ap (option_map (fault_at (line_of deed))) h
 
-none_deleted : (before : List Item) → list_all is_run before ≡ true → deleted_after before ≡ []
-none_deleted [] h = refl
-none_deleted (item ∷ before) h =
-    let p = and_parts _ _ h in rw (item_keeps item p.0, none_deleted before p.1) refl
+pub judged_next : (all left : List Statement) (one : Statement) (shapes : List Shapes) (new_shapes : Shapes) (old new : KnownNames) (judged : AreJudgedTo all shapes old (one ∷ left))
+    → Goes judged.known judged.deleted (deed_of one) new (Ok new_shapes) → AreJudgedTo all (shapes ++ new_shapes ∷ []) new left
+judged_next all left one shapes new_shapes old new judged goes = record {
+  known = known_behind judged.known (deed_of one);
+  deleted = deleted_behind judged.deleted (deed_of one);
+  keeps = goes.1;
+  shaped = λ more h. rw (append_assoc shapes (new_shapes ∷ []) more) (judged.shaped (new_shapes ∷ more) (goes.0, h));
+  same = λ last.
+      judged.same last
+      ∙ ap (λ o. or_else o (names_fault (known_behind judged.known (deed_of one)) (deleted_behind judged.deleted (deed_of one)) (map deed_of left ++ last)))
+      (clean_fault judged.known judged.deleted (deed_of one) goes.0.clean);
+  counted = judged.counted.1;
+}
 
--- ---- How many names a statement has
+-- ---- Where judging stops
 
-with_names : (names others : List (List ℕ)) (v verb : Verb) → act_with others v ≡ Some (Act verb names) → length names ≡ names_after verb
-with_names names others v verb h =
-    elim (cases_Bool (eqb (length others) (names_after v))) [
-      | inl really ↦
-          let e : Some (Act v others) ≡ Some (Act verb names) = sym (cond-true _ _ _ really) ∙ h in
-          let same_verb : v ≡ verb = cc in
-          let same_names : others ≡ names = cc in
-          ap length (sym same_names) ∙ (eqb-true (length others) (names_after v) really ∙ ap names_after same_verb)
-      | inr never ↦ absurd (let e : None ≡ Some (Act verb names) = sym (cond-false _ _ _ never) ∙ h in cc)
-    ]
+refused_case : (all left : List Statement) (one : Statement) (shapes : List Shapes) (old new : KnownNames) (begun : Option Begun) (refused : ScriptRefused) (judged : AreJudgedTo all shapes old (one ∷ left))
+    → Goes judged.known judged.deleted (deed_of one) new (Err refused) → JudgesAll all begun (Err refused)
+refused_case all left one shapes old new begun (refusals.Fault fault) judged goes =
+    judged.same (deeds_begun (option_map begun_told begun))
+    ∙ ap (λ o. or_else o (names_fault (known_behind judged.known (deed_of one)) (deleted_behind judged.deleted (deed_of one)) (map deed_of left ++ deeds_begun (option_map begun_told begun)))) goes
+refused_case all left one shapes old new begun refusals.Memory judged goes = tt
 
-named_names : (names others : List (List ℕ)) (verb : Verb) (o : Option Verb) → option_and_then (act_with others) o ≡ Some (Act verb names) → length names ≡ names_after verb
-named_names names others verb None h = absurd (let e : None ≡ Some (Act verb names) = h in cc)
-named_names names others verb (Some v) h = with_names names others v verb h
+pub judged_refused : (all left : List Statement) (one : Statement) (shapes : List Shapes) (old new : KnownNames) (begun : Option Begun) (refused : ScriptRefused) (judged : AreJudgedTo all shapes old (one ∷ left))
+    → Goes judged.known judged.deleted (deed_of one) new (Err refused) → JudgesAll all begun (Err refused)
+judged_refused all left one shapes old new begun refused judged goes = refused_case all left one shapes old new begun refused judged goes
 
-market_only : (names others : List (List ℕ)) (verb : Verb) → cond (eqb (length others) 1) (Some (Market others)) None ≡ Some (Act verb names) → ⊥
-market_only names others verb h =
-    elim (cases_Bool (eqb (length others) 1)) [
-      | inl really ↦ let e : Some (Market others) ≡ Some (Act verb names) = sym (cond-true _ _ _ really) ∙ h in cc
-      | inr never ↦ let e : None ≡ Some (Act verb names) = sym (cond-false _ _ _ never) ∙ h in cc
-    ]
+-- ---- The end
 
-names_said : (words : List (List ℕ)) (verb : Verb) (names : List (List ℕ)) → said_in words ≡ Some (Act verb names) → length names ≡ names_after verb
-names_said [] verb names h = absurd (let e : None ≡ Some (Act verb names) = h in cc)
-names_said (first ∷ others) verb names h =
-    elim (cases_Bool (bytes_eq first (codes "market"))) [
-      | inl really ↦ absurd (market_only names others verb (sym (cond-true _ _ _ really) ∙ h))
-      | inr never ↦ named_names names others verb (verb_named first) (sym (cond-false _ _ _ never) ∙ h)
-    ]
+end_fault : (all : List Statement) (shapes : List Shapes) (names : KnownNames) (begun : Option Begun) (judged : AreJudgedTo all shapes names [])
+    → names_fault [] [] (with_begun all begun) ≡ names_fault judged.known judged.deleted (deeds_begun (option_map begun_told begun))
+end_fault all shapes names begun judged = judged.same (deeds_begun (option_map begun_told begun))
 
--- ---- The rules of the statements that are run
+end_shaped : (all : List Statement) (shapes : List Shapes) (names : KnownNames) → AreJudgedTo all shapes names [] → AreShapedAs [] [] all shapes
+end_shaped all shapes names judged = subst (AreShapedAs [] [] all) (append-nil shapes) (judged.shaped [] tt)
 
--- whether one of the rules is broken, as one test
-sum_rules : (t c a b x y z s f : Bool)
-    → (is_none (first_code ((2, not t) ∷ (6, not (c && (a && (b && true)))) ∷ (14, not x || (not y || false)) ∷ (15, false || (false || false)) ∷ (16, z || false) ∷ (17, not s) ∷ (18, not f) ∷ [])) && true)
-    ≡ (t && (c && a && b && x && y && not z && (s && f)))
-sum_rules false c a b x y z s f = refl
-sum_rules true false a b x y z s f = refl
-sum_rules true true false b x y z s f = refl
-sum_rules true true true false x y z s f = refl
-sum_rules true true true true false y z s f = refl
-sum_rules true true true true true false z s f = refl
-sum_rules true true true true true true true s f = refl
-sum_rules true true true true true true false false f = refl
-sum_rules true true true true true true false true false = refl
-sum_rules true true true true true true false true true = refl
+pub begun_taken : (all : List Statement) (shapes : List Shapes) (names : KnownNames) (begun : Begun) (judged : AreJudgedTo all shapes names []) → is_known judged.known (name_bytes begun.to) ≡ true
+    → JudgesAll all (Some begun) (Err (refusals.Fault (record { line = begun.line; code = 16 })))
+begun_taken all shapes names begun judged there = end_fault all shapes names (Some begun) judged ∙ rw there refl
 
-trace_rules : (t a x s : Bool)
-    → (is_none (first_code ((2, not t) ∷ (6, not (a && true)) ∷ (14, not x || false) ∷ (15, false || false) ∷ (16, false) ∷ (17, not s) ∷ (18, false) ∷ [])) && true)
-    ≡ (t && (a && x && s))
-trace_rules false a x s = refl
-trace_rules true false x s = refl
-trace_rules true true false s = refl
-trace_rules true true true false = refl
-trace_rules true true true true = refl
+pub begun_free : (all : List Statement) (shapes : List Shapes) (names : KnownNames) (begun : Begun) (judged : AreJudgedTo all shapes names []) → is_known judged.known (name_bytes begun.to) ≡ false
+    → JudgesAll all (Some begun) (Ok shapes)
+begun_free all shapes names begun judged fresh = (end_fault all shapes names (Some begun) judged ∙ rw fresh refl, end_shaped all shapes names judged)
 
-print_rules : (t a x : Bool)
-    → (is_none (first_code ((2, not t) ∷ (6, not (a && true)) ∷ (14, not x || false) ∷ (15, false || false) ∷ (16, false) ∷ (17, false) ∷ (18, false) ∷ [])) && true)
-    ≡ (t && (a && x))
-print_rules false a x = refl
-print_rules true false x = refl
-print_rules true true false = refl
-print_rules true true true = refl
+pub none_begun : (all : List Statement) (shapes : List Shapes) (names : KnownNames) (judged : AreJudgedTo all shapes names []) → JudgesAll all None (Ok shapes)
+none_begun all shapes names judged = (end_fault all shapes names None judged, end_shaped all shapes names judged)
 
-never_both : (a b : Bool) → (a && false) ≡ (b && false)
-never_both true true = refl
-never_both true false = refl
-never_both false true = refl
-never_both false false = refl
+-- all statements were judged where none is left
+pub all_judged : (all : List Statement) (shapes : List Shapes) (names : KnownNames) (left : List Statement) → AreJudgedTo all shapes names left → length left ≡ 0 → AreJudgedTo all shapes names []
+all_judged all shapes names [] judged none = judged
+all_judged all shapes names (one ∷ left) judged none = absurd (omega arith)
 
-never_right : (a : Bool) → (a && false) ≡ false
-never_right true = refl
-never_right false = refl
+-- what is said of the line `market NAME` behind them, by whether the name is kept
+pub record IsBegunJudged (all : List Statement) (shapes : List Shapes) (begun : Begun) (taken : Bool) : Type 0 where
+  pub refused : taken ≡ true → JudgesAll all (Some begun) (Err (refusals.Fault (record { line = begun.line; code = 16 })))
+  pub free : taken ≡ false → JudgesAll all (Some begun) (Ok shapes)
 
--- what is left of the rules for a statement, where no name was deleted
-abbrev Rules : Bool → List NamedShape → Verb → List (List ℕ) → Type 0
-Rules t known verb names =
-    (is_none (first_code ((2, not t) ∷ word_rules (Act verb names) ++ name_rules known [] (Act verb names))) && is_run_verb verb) ≡ (t && is_sound_act known verb names)
+pub begun_judged : (all : List Statement) (shapes : List Shapes) (names : KnownNames) (left : List Statement) (begun : Begun) (o : Option Kept) (taken : Bool) (word : List ℕ)
+    → AreJudgedTo all shapes names left → length left ≡ 0 → taken ≡ is_some o → o ≡ look word names → word ≡ name_bytes begun.to → IsBegunJudged all shapes begun taken
+begun_judged all shapes names left begun o taken word judged none some is same =
+    let end = all_judged all shapes names left judged none in
+    let any = found_any end.known end.deleted names o taken word (name_bytes begun.to) end.keeps some is same in
+    record {
+      refused = λ there. begun_taken all shapes names begun end (sym any ∙ there);
+      free = λ fresh. begun_free all shapes names begun end (sym any ∙ fresh);
+    }
 
-sum_judged : (t : Bool) (known : List NamedShape) (names : List (List ℕ)) → length names ≡ 3 → Rules t known Add names
-sum_judged t known [] len = absurd (omega arith)
-sum_judged t known (c ∷ []) len = absurd (omega arith)
-sum_judged t known (c ∷ a ∷ []) len = absurd (omega arith)
-sum_judged t known (c ∷ a ∷ b ∷ []) len =
-    sum_rules t (is_name c) (is_name a) (is_name b) (is_known known a) (is_known known b) (is_known known c)
-    (shapes_fit Add (shape_in known a) (shape_in known b)) (forms_fit Add (shape_in known a) (shape_in known b))
-sum_judged t known (c ∷ a ∷ b ∷ d ∷ names) len = absurd (omega arith)
+-- one more statement of those that are left
+pub judged_more : (all left behind : List Statement) (one : Statement) (shapes more : List Shapes) (new_shapes : Shapes) (old new : KnownNames) (judged : AreJudgedTo all shapes old left)
+    → left ≡ one ∷ behind → ((known : List NamedShape) (deleted : List (List ℕ)) → Keeps known deleted old → Goes known deleted (deed_of one) new (Ok new_shapes))
+    → more ≡ shapes ++ new_shapes ∷ [] → AreJudgedTo all more new behind
+judged_more all left behind one shapes more new_shapes old new judged cut goes is =
+    let here = subst (AreJudgedTo all shapes old) cut judged in
+    rw is (judged_next all behind one shapes new_shapes old new here (goes here.known here.deleted here.keeps))
 
-trace_judged : (t : Bool) (known : List NamedShape) (names : List (List ℕ)) → length names ≡ 1 → Rules t known Trace names
-trace_judged t known [] len = absurd (omega arith)
-trace_judged t known (a ∷ []) len = trace_rules t (is_name a) (is_known known a) (is_square (shape_in known a))
-trace_judged t known (a ∷ b ∷ names) len = absurd (omega arith)
+pub judged_stopped : (all left behind : List Statement) (one : Statement) (shapes : List Shapes) (old new : KnownNames) (begun : Option Begun) (refused : ScriptRefused) → AreJudgedTo all shapes old left
+    → left ≡ one ∷ behind → ((known : List NamedShape) (deleted : List (List ℕ)) → Keeps known deleted old → Goes known deleted (deed_of one) new (Err refused))
+    → JudgesAll all begun (Err refused)
+judged_stopped all left behind one shapes old new begun refused judged cut goes =
+    let here = subst (AreJudgedTo all shapes old) cut judged in
+    judged_refused all behind one shapes old new begun refused here (goes here.known here.deleted here.keeps)
 
-print_judged : (t : Bool) (known : List NamedShape) (names : List (List ℕ)) → length names ≡ 1 → Rules t known Print names
-print_judged t known [] len = absurd (omega arith)
-print_judged t known (a ∷ []) len = print_rules t (is_name a) (is_known known a)
-print_judged t known (a ∷ b ∷ names) len = absurd (omega arith)
+-- ---- Statements with their shapes
 
-verb_judged : (t : Bool) (known : List NamedShape) (verb : Verb) (names : List (List ℕ)) → length names ≡ names_after verb → Rules t known verb names
-verb_judged t known Copy names len = never_both _ t
-verb_judged t known Add names len = sum_judged t known names len
-verb_judged t known Mul names len = never_both _ t
-verb_judged t known TMul names len = never_both _ t
-verb_judged t known MulT names len = never_both _ t
-verb_judged t known Square names len = never_both _ t
-verb_judged t known Full names len = never_both _ t
-verb_judged t known Trace names len = trace_judged t known names len
-verb_judged t known Count names len = never_both _ t
-verb_judged t known Print names len = print_judged t known names len
-verb_judged t known Delete names len = never_both _ t
+pub steps_deeds : (known : List NamedShape) (deleted : List (List ℕ)) (said : List Statement) (shapes : List Shapes) → AreShapedAs known deleted said shapes
+    → map deed_in (steps_of said shapes) ≡ map deed_of said
+steps_deeds known deleted [] [] h = refl
+steps_deeds known deleted [] (shapes ∷ more) h = absurd h
+steps_deeds known deleted (one ∷ others) [] h = absurd h
+steps_deeds known deleted (one ∷ others) (shapes ∷ more) h =
+    ap (λ xs. deed_of one ∷ xs) (steps_deeds (known_behind known (deed_of one)) (deleted_behind deleted (deed_of one)) others more h.1)
 
--- ---- Lines
+pub steps_few : (said : List Statement) (shapes : List Shapes) → length (steps_of said shapes) ≤ length said
+steps_few said [] = omega arith
+steps_few [] (shapes ∷ more) = omega arith
+steps_few (one ∷ others) (shapes ∷ more) = omega (arith, steps_few others more)
 
-is_none-map : (n : ℕ) (o : Option ℕ) → is_none (option_map (fault_at n) o) ≡ is_none o
-is_none-map n None = refl
-is_none-map n (Some code) = refl
+pub steps_known : (grid : ℕ) (known : List NamedShape) (deleted : List (List ℕ)) (said : List Statement) (shapes : List Shapes) → AreFormed grid said → AreShapedAs known deleted said shapes
+    → AreSteps grid known deleted (steps_of said shapes)
+steps_known grid known deleted [] [] formed h = tt
+steps_known grid known deleted [] (shapes ∷ more) formed h = absurd h
+steps_known grid known deleted (one ∷ others) [] formed h = absurd h
+steps_known grid known deleted (one ∷ others) (shapes ∷ more) formed h = (
+  record {
+    formed = formed.0;
+    sound = said_sound known deleted (said_by (deed_of one)) h.0.clean;
+    shapes = h.0.listed_as;
+    repeated = h.0.repeated;
+  },
+  steps_known grid (known_behind known (deed_of one)) (deleted_behind deleted (deed_of one)) others more formed.1 h.1,
+)
 
--- a line that says a statement with a verb
-pub line_judged : (known : List NamedShape) (n : ℕ) (line : List ℕ) (verb : Verb) (names : List (List ℕ)) → said_in (words_of line) ≡ Some (Act verb names)
-    → IsJudged known (Line n line) (is_text line && is_sound_act known verb names)
-line_judged known n line verb names said before run bound =
-    ap (λ b. b && is_run (Line n line)) (is_none-map n (line_code before line))
-    ∙ rw (said, bound, none_deleted before run) (verb_judged (is_text line) known verb names (names_said (words_of line) verb names said))
+-- ---- Statements as they were parsed
 
--- a line that says nothing of this kind
-pub line_not_run : (known : List NamedShape) (n : ℕ) (line : List ℕ) → is_run (Line n line) ≡ false → IsJudged known (Line n line) false
-line_not_run known n line never before run bound = rw never (never_right (is_none (item_fault before (Line n line))))
+own_names : (grid : ℕ) (one : Statement) → IsFormed grid one → HasItsNames one
+own_names grid (statements.Market line to market) h = tt
+own_names grid (statements.Act line verb names) h = h.0
+
+pub their_names : (grid : ℕ) (said : List Statement) → AreFormed grid said → HaveTheirNames said
+their_names grid [] h = tt
+their_names grid (one ∷ others) h = (own_names grid one h.0, their_names grid others h.1)
+
+-- ---- Putting them together
+
+pub joined_next : (all : List Statement) (shapes : List Shapes) (steps : List Step) (one : Statement) (others : List Statement) (new_shapes : Shapes) (more : List Shapes)
+    → steps_of all shapes ≡ steps ++ steps_of (one ∷ others) (new_shapes ∷ more) → steps_of all shapes ≡ (steps ++ step_of one new_shapes ∷ []) ++ steps_of others more
+joined_next all shapes steps one others new_shapes more h = h ∙ sym (append_assoc steps (step_of one new_shapes ∷ []) (steps_of others more))
+
+pub joined_end : (all : List Statement) (shapes : List Shapes) (steps : List Step) (left : List Statement) (more : List Shapes) → steps_of all shapes ≡ steps ++ steps_of left more
+    → steps_of left more ≡ [] → steps_of all shapes ≡ steps
+joined_end all shapes steps left more h end = h ∙ (ap (λ xs. steps ++ xs) end ∙ append-nil steps)

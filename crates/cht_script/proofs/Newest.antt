@@ -1,6 +1,6 @@
 -- The newest of things that came one after another. Crates above may cite this.
 use Rattle.std.proofs.Common.{◌≡◌, ℕ, suc, ◌<◌, Bool, true, false, cond, List, [], ◌∷◌, ◌++◌, length, map, Option, None, Some, slice_get, refl, ap, ◌∙◌, inl, inr, arith}
-use Rattle.std.specs.Prelude.{option_map}
+use Rattle.std.specs.Prelude.{◌||◌, not, is_none, option_map}
 use Rattle.std.specs.List.{list_any}
 use Rattle.std.proofs.lemmas.Bool.{cases_Bool, true≢false}
 use Rattle.mm_text.specs.Faults.{or_else}
@@ -84,3 +84,24 @@ pub newest_number-map : {A B : Type 0} (change : A → B) (fits : B → Bool) (x
 newest_number-map change fits [] = refl
 newest_number-map change fits (x ∷ xs) =
     ap (λ o. or_else (option_map suc o) (cond (fits (change x)) (Some 0) None)) (newest_number-map change fits xs)
+
+-- ---- Whether something fits, and one more at the end
+
+any_case : {A : Type 0} (b : Bool) (x : A) (o : Option A) (any : Bool) → any ≡ not (is_none o) → (b || any) ≡ not (is_none (or_else o (cond b (Some x) None)))
+any_case true x None any h = refl
+any_case true x (Some y) any h = refl
+any_case false x None any h = h
+any_case false x (Some y) any h = h
+
+pub any_newest : {A : Type 0} (fits : A → Bool) (xs : List A) → list_any fits xs ≡ not (is_none (newest fits xs))
+any_newest fits [] = refl
+any_newest fits (x ∷ xs) = any_case (fits x) x (newest fits xs) (list_any fits xs) (any_newest fits xs)
+
+last_case : {A : Type 0} (b : Bool) (y : A) (o last : Option A) → or_else (cond b (Some y) o) last ≡ cond b (Some y) (or_else o last)
+last_case true y o last = refl
+last_case false y o last = refl
+
+pub newest-push : {A : Type 0} (fits : A → Bool) (xs : List A) (y : A) → newest fits (xs ++ y ∷ []) ≡ cond (fits y) (Some y) (newest fits xs)
+newest-push fits [] y = refl
+newest-push fits (x ∷ xs) y =
+    ap (λ o. or_else o (cond (fits x) (Some x) None)) (newest-push fits xs y) ∙ last_case (fits y) y (newest fits xs) (cond (fits x) (Some x) None)

@@ -1,8 +1,9 @@
-ghost use Rattle.std.specs.Prelude.{◌≡◌, ◌≤◌, ◌+◌, ◌^◌, false, length, MatchOption};
+ghost use Rattle.std.specs.Prelude.{◌≡◌, ◌≤◌, ◌+◌, ◌^◌, false, length};
 ghost use Rattle.cht_script.specs.Words.{is_skipped};
 ghost use Rattle.cht_script.specs.Reading.{IsLeastHeight};
-ghost use Rattle.cht_script.specs.Steps.{HasNoHeading, IsHeadingOf, IsNoHeading, IsHeadingAt};
+ghost use Rattle.cht_script.specs.Steps.{Heads, HeadsAt};
 
+use crate::script::Fault;
 use crate::words::{is_skipped, read_grid};
 use mm_text::{is_text, next_line};
 
@@ -16,10 +17,10 @@ pub(crate) struct Heading<'a> {
     pub rest: &'a [u8],
 }
 
-/// The heading of a text.
-pub(crate) fn read_heading(text: &[u8]) -> Option<Heading<'_>>
+/// The heading of a text, or the fault of the line in its place.
+pub(crate) fn read_heading(text: &[u8]) -> Result<Heading<'_>, Fault>
     requires { length text.now ≤ 2 ^ 26 }
-    ensures { MatchOption result (HasNoHeading text.now) (IsHeadingOf text.now) }
+    ensures { Heads text.now result }
 {
     let mut number = 0;
     let mut rest = text;
@@ -30,19 +31,30 @@ pub(crate) fn read_heading(text: &[u8]) -> Option<Heading<'_>>
             return heading_at(number, line, rest);
         }
     }
-    None
+    Err(Fault {
+        line: number + 1,
+        code: 3,
+    })
 }
 
-// The heading whose grid line this line is, if it is one.
-fn heading_at<'a>(number: u64, line: &[u8], rest: &'a [u8]) -> Option<Heading<'a>>
+// The heading whose grid line this line is, or its fault.
+fn heading_at<'a>(number: u64, line: &[u8], rest: &'a [u8]) -> Result<Heading<'a>, Fault>
     requires { is_skipped line.now ≡ false }
-    ensures { MatchOption result (IsNoHeading number line.now) (IsHeadingAt number line.now rest.now) }
+    ensures { HeadsAt number line.now rest.now result }
 {
     if !is_text(line) {
-        return None;
+        return Err(Fault {
+            line: number,
+            code: 2,
+        });
     }
-    let (grid, leaf) = read_grid(line)?;
-    Some(Heading {
+    let Some((grid, leaf)) = read_grid(line) else {
+        return Err(Fault {
+            line: number,
+            code: 3,
+        });
+    };
+    Ok(Heading {
         grid,
         leaf,
         line: number,

@@ -1,45 +1,124 @@
 //! The script language: lines, statements, what is wrong with a text, and what it means.
 #![tactic(auto)]
 
-ghost use Rattle.std.specs.Prelude.{◌≡◌, IfOk};
-ghost use Rattle.cht_script.specs.Reading.{IsFound};
+ghost use Rattle.std.specs.Prelude.{◌≡◌, ℕ, List, IfOk, map, Ok, Err};
+ghost use Rattle.cht_script.specs.Limits.{AreLimits};
+ghost use Rattle.cht_script.specs.Parsing.{IsParsed, IsParsedOfSome, front_of};
+ghost use Rattle.cht_script.specs.Checking.{IsFaultOf, IsJudgedAsRead, deed_in};
+ghost use Rattle.cht_script.specs.NotRun.{not_run_in};
+ghost use Rattle.cht_script.specs.Progress.{IsReadBehind};
+ghost use Rattle.cht_script.specs.Steps.{heading_told};
 
-mod acts;
+mod checked;
 mod heading;
-mod known_names;
+mod judge;
+mod names;
 mod reader;
 mod script;
-mod shape;
 mod statement;
 mod words;
 
-use cht_ids::Memory;
-use heading::{height, read_heading};
-use reader::read_statements;
-pub use script::{Name, Names, Script, Slots, Statement, Verb};
+pub use checked::{Checked, ScriptRefused, Shape, Shapes, Step};
+use cht_ids::{List, Memory};
+use heading::{Heading, height, read_heading};
+use judge::{join, judge_all};
+use reader::{Reading, read_statements};
+pub use script::{Begun, Fault, Name, Names, Script, Statement, Verb};
 use std::alloc::Global;
 
 /// How many bytes a script may have.
 pub const MOST_BYTES: usize = 1 << 26;
 
-/// Reads a script. `None` exactly where the text has a fault, a block in the symmetric form, or a statement other than
-/// `market`, `add`, `trace` and `print`.
-pub fn read_script(alloc: Global, bytes: &[u8]) -> Result<Option<Script>, Memory>
-    ensures { IfOk result (IsFound bytes.now) }
+/// Reads a script up to the first line that breaks a rule on lines: a text that is too long, other bytes than text, a line that
+/// is no grid line or no statement, a word that is no name, or a line of a block that is wrong or missing. What its names mean
+/// is not looked at.
+pub fn parse(alloc: Global, bytes: &[u8]) -> Result<Script, Memory>
+    ensures { IfOk result (IsParsed bytes.now) }
 {
     if bytes.len() > MOST_BYTES {
-        return Ok(None);
+        return Ok(nothing_read(alloc, Fault { line: 0, code: 1 }));
     }
-    let Some(heading) = read_heading(bytes) else {
-        return Ok(None);
+    let heading = match read_heading(bytes) {
+        Ok(heading) => heading,
+        Err(fault) => return Ok(nothing_read(alloc, fault)),
     };
-    let Some(statements) = read_statements(alloc, heading)? else {
-        return Ok(None);
-    };
-    Ok(Some(Script {
+    let reading = read_statements(alloc, heading)?;
+    Ok(script_read(heading, reading))
+}
+
+// What is read of a text with this fault and without a grid line.
+fn nothing_read(alloc: Global, fault: Fault) -> Script
+    ensures { (text : List ℕ) → front_of text ≡ Err fault → IsParsed text result }
+{
+    Script {
+        grid: 1,
+        leaf: 1,
+        statements: List::new(alloc),
+        begun: None,
+        stop: Some(fault),
+    }
+}
+
+// What is read of a text with this heading.
+fn script_read(heading: Heading<'_>, reading: Reading) -> Script
+    requires within { AreLimits (heading.grid, heading.leaf) }
+    requires read { IsReadBehind heading reading }
+    ensures { (text : List ℕ) → front_of text ≡ Ok (heading_told heading.entry) → IsParsed text result }
+{
+    let Reading { statements, stop } = reading;
+    Script {
         grid: heading.grid,
         leaf: heading.leaf,
-        height: height(heading.grid, heading.leaf),
         statements,
-    }))
+        begun: stop.and_then(|stop| stop.begun),
+        stop: stop.map(|stop| stop.fault),
+    }
+}
+
+/// Judges the names of a script, which is what `parse` gave for some text. The first line that breaks a rule is the fault, with
+/// the least code that is broken there.
+pub fn check(alloc: Global, script: Script) -> Result<Checked, ScriptRefused>
+    requires { IsParsedOfSome script }
+    ensures fault { IsFaultOf script result }
+    ensures verdict { IsJudgedAsRead script result }
+{
+    let Script {
+        grid,
+        leaf,
+        statements,
+        begun,
+        stop,
+    } = script;
+    let shapes = match judge_all(alloc, statements.as_slice(), begun) {
+        Ok(shapes) => shapes,
+        Err(refused) => return Err(refused),
+    };
+    if let Some(fault) = stop {
+        return Err(ScriptRefused::Fault(fault));
+    }
+    let steps = join(alloc, statements, shapes.as_slice())?;
+    Ok(Checked {
+        grid,
+        leaf,
+        height: height(grid, leaf),
+        steps,
+    })
+}
+
+/// The first statement that is not run yet: a matrix in the symmetric form, or one of the products, squares and full forms. Its
+/// fault has the line of the statement, and code 20.
+pub fn not_run_yet(checked: &Checked) -> Option<Fault>
+    ensures { result ≡ not_run_in (map deed_in checked.now.steps) }
+{
+    let mut left = checked.steps.as_slice();
+    while let [step, behind @ ..] = left {
+        left = behind;
+        if !step.statement.is_run() {
+            return Some(Fault {
+                line: step.statement.line(),
+                code: 20,
+            });
+        }
+    }
+    None
 }

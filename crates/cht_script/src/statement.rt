@@ -1,9 +1,11 @@
-ghost use Rattle.std.specs.Prelude.{◌≡◌, ◌∷◌, option_map, MatchOption, length};
+ghost use Rattle.std.specs.Prelude.{◌≡◌, ◌∷◌, false, option_map, MatchOption, [], length};
+ghost use Rattle.std.specs.List.{list_all};
 ghost use Rattle.mm_text.specs.Lines.{words_of};
 ghost use Rattle.cht_script.specs.Statements.{verb_named, names_after, act_with, said_in};
-ghost use Rattle.cht_script.specs.Steps.{words_told, said_told, market_with, IsOtherCount};
+ghost use Rattle.cht_script.specs.Words.{is_name};
+ghost use Rattle.cht_script.specs.Steps.{words_told, said_told, market_with, IsOtherCount, AreNamesOf};
 
-use crate::script::Verb;
+use crate::script::{Name, Names, Verb};
 use mm_text::next_word;
 
 /// One to three words.
@@ -31,6 +33,53 @@ impl<'a> Words<'a> {
             Words::Three(_, _, _) => 3,
         }
     }
+
+    /// The names that these words are, if all are names.
+    pub(crate) fn names(self) -> Option<Names>
+        ensures { MatchOption result (list_all is_name (words_told self.entry) ≡ false) (AreNamesOf (words_told self.entry)) }
+    {
+        match self {
+            Words::One(first) => one_name(first),
+            Words::Two(first, second) => two_names(first, second),
+            Words::Three(first, second, third) => three_names(first, second, third),
+        }
+    }
+}
+
+fn one_name(first: &[u8]) -> Option<Names>
+    ensures { MatchOption result (list_all is_name (first.now ∷ []) ≡ false) (AreNamesOf (first.now ∷ [])) }
+{
+    let first = Name::of(first)?;
+    Some(Names {
+        count: 1,
+        first,
+        second: first,
+        third: first,
+    })
+}
+
+fn two_names(first: &[u8], second: &[u8]) -> Option<Names>
+    ensures { MatchOption result (list_all is_name (first.now ∷ second.now ∷ []) ≡ false) (AreNamesOf (first.now ∷ second.now ∷ [])) }
+{
+    let first = Name::of(first)?;
+    let second = Name::of(second)?;
+    Some(Names {
+        count: 2,
+        first,
+        second,
+        third: first,
+    })
+}
+
+fn three_names(first: &[u8], second: &[u8], third: &[u8]) -> Option<Names>
+    ensures { MatchOption result (list_all is_name (first.now ∷ second.now ∷ third.now ∷ []) ≡ false) (AreNamesOf (first.now ∷ second.now ∷ third.now ∷ [])) }
+{
+    Some(Names {
+        count: 3,
+        first: Name::of(first)?,
+        second: Name::of(second)?,
+        third: Name::of(third)?,
+    })
 }
 
 impl Verb {
