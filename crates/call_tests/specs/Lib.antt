@@ -1,1 +1,2 @@
 pub mod MatrixInputs
+pub mod Below

@@ -31,6 +31,8 @@ mod script_calls;
 #[cfg(test)]
 mod store_calls;
 #[cfg(test)]
+mod task_graph_calls;
+#[cfg(test)]
 mod task_type_calls;
 #[cfg(test)]
 mod word_calls;
