@@ -23,6 +23,8 @@ mod name_state_calls;
 #[cfg(test)]
 mod store_calls;
 #[cfg(test)]
+mod task_graph_calls;
+#[cfg(test)]
 mod task_type_calls;
 #[cfg(test)]
 mod word_calls;
