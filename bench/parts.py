@@ -78,7 +78,7 @@ def built(folder, name, crates, parts):
         )
     with open(os.path.join(TOP, "crates.txt")) as known, open(os.path.join(folder, "crates.txt"), "w") as listed:
         for line in known:
-            if line.split(":")[0] in crates:
+            if line.partition(":")[0].split()[:1] in [[crate] for crate in crates]:
                 listed.write(line)
         listed.write(f"{name}: {' '.join(crates)}\n")
     bench = os.path.join(folder, "crates", name)
