@@ -5,7 +5,8 @@ use mm_text::Form;
 use std::alloc::Global;
 use std::test::Fail;
 
-const SUM: &[u8] = b"grid 4095 leaf 64\nmarket a\n%%MatrixMarket matrix coordinate integer general\n1 2 0\n# a comment\nadd b a a\ndelete a\nprint b\n";
+const SUM: &[u8] =
+    b"grid 4095 leaf 64\nmarket a\n%%MatrixMarket matrix coordinate integer general\n1 2 0\n# a comment\nadd b a a\ndelete a\nprint b\n";
 
 #[test]
 fn statements_are_read_and_judged(rt: HostRuntime) -> Result<(), Fail> {
@@ -49,10 +50,38 @@ fn faults_are_told_with_their_lines(rt: HostRuntime) -> Result<(), Fail> {
     assert!(rt; has_fault(rt.alloc(), b"grid 4 leaf 2\nswap a b\n", 2, 4)?);
     assert!(rt; has_fault(rt.alloc(), b"grid 4 leaf 2\nmarket 1a\n", 2, 6)?);
     assert!(rt; has_fault(rt.alloc(), b"grid 4 leaf 2\nmarket a\nx\n", 3, 7)?);
-    assert!(rt; has_fault(rt.alloc(), b"grid 4 leaf 2\nmarket a\n%%MatrixMarket matrix coordinate integer general\n2 2 2\n1 1 3\n", 6, 13)?);
+    assert!(rt;
+        has_fault(
+            rt.alloc(),
+            b"grid 4 leaf 2\nmarket a\n%%MatrixMarket matrix coordinate integer general\n2 2 2\n1 1 3\n",
+            6,
+            13
+        )?
+    );
     assert!(rt; has_fault(rt.alloc(), b"grid 4 leaf 2\nprint a", 2, 14)?);
-    assert!(rt; has_fault(rt.alloc(), b"grid 4 leaf 2\nmarket a\n%%MatrixMarket matrix coordinate integer general\n2 2 0\ndelete a\nprint a\n", 6, 15)?);
-    assert!(rt; has_fault(rt.alloc(), b"grid 4 leaf 2\nmarket a\n%%MatrixMarket matrix coordinate integer general\n2 2 0\nmarket a\nx\n", 5, 16)?);
-    assert!(rt; has_fault(rt.alloc(), b"grid 4 leaf 2\nmarket a\n%%MatrixMarket matrix coordinate integer general\n2 2 1\n1 1 3\nsquare b a\n", 6, 18)?);
+    assert!(rt;
+        has_fault(
+            rt.alloc(),
+            b"grid 4 leaf 2\nmarket a\n%%MatrixMarket matrix coordinate integer general\n2 2 0\ndelete a\nprint a\n",
+            6,
+            15
+        )?
+    );
+    assert!(rt;
+        has_fault(
+            rt.alloc(),
+            b"grid 4 leaf 2\nmarket a\n%%MatrixMarket matrix coordinate integer general\n2 2 0\nmarket a\nx\n",
+            5,
+            16
+        )?
+    );
+    assert!(rt;
+        has_fault(
+            rt.alloc(),
+            b"grid 4 leaf 2\nmarket a\n%%MatrixMarket matrix coordinate integer general\n2 2 1\n1 1 3\nsquare b a\n",
+            6,
+            18
+        )?
+    );
     Ok(())
 }
