@@ -4,15 +4,11 @@ use Rattle.mm_text.specs.declared.market.MarketFault.{MarketFault}
 use Rattle.mm_text.specs.Lines.{lines_of, words_of, is_text}
 use Rattle.mm_text.specs.Faults.{first_code}
 use Rattle.mm_text.specs.Block as listing
+use Rattle.cht_script.specs.declared.script.Fault.{Fault}
 use Rattle.cht_script.specs.Words.{is_name, grid_of, is_skipped}
 use Rattle.cht_script.specs.Statements.{Said, Market, said_in}
 
 -- ---- Faults
-
--- a fault: the line, and the code of the rule that is broken
-pub record Fault : Type 0 where
-  pub line : ℕ
-  pub code : ℕ
 
 -- a fault at a line
 abbrev pub fault_at : ℕ → ℕ → Fault

@@ -4,8 +4,8 @@ pub mod Items
 pub mod Newest
 pub mod Verdict
 pub mod Meaning
+pub mod NotRun
 pub mod Reading
 pub mod Limits
-pub mod Steps
-pub mod Progress
-pub mod KnownNames
+pub mod Parsing
+pub mod Checking

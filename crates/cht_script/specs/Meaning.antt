@@ -23,10 +23,10 @@ pub data Deed : Type 0 where
   Lists : ℕ → List ℕ → Form → Matrix → Deed
   Acts : ℕ → Verb → List (List ℕ) → Deed
 
--- the statement of what line n says; one that says `market` lists no matrix, where it is no block
+-- the statement of what line n says; one that says `market` lists a matrix without rows and columns, where it is no block
 abbrev pub deeds_said : ℕ → Option Said → List Deed
 deeds_said n None = []
-deeds_said n (Some (Market names)) = []
+deeds_said n (Some (Market names)) = map (λ name. Lists n name General (zeros 0 0)) names
 deeds_said n (Some (Act verb names)) = Acts n verb names ∷ []
 
 -- the statement of an item

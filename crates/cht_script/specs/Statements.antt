@@ -3,6 +3,7 @@ use Rattle.std.specs.Prelude.{ℕ, Bool, true, false, ◌&&◌, ◌==◌, not, i
 use Rattle.std.specs.Str.{bytes_eq}
 use Rattle.mm_text.specs.declared.market.Form.{Form}
 use Rattle.mm_text.specs.declared.market.Form.TheVariants.{General, Symmetric}
+use Rattle.cht_script.specs.declared.checked.Shape.{Shape}
 use Rattle.cht_script.specs.declared.script.Verb.{Verb}
 use Rattle.cht_script.specs.declared.script.Verb.TheVariants.{Copy, Add, Mul, TMul, MulT, Square, Full, Trace, Count, Print, Delete}
 
@@ -85,12 +86,6 @@ input_names (Market names) = []
 input_names (Act verb names) = if binds verb then drop 1 names else names
 
 -- ---- Shapes and forms
-
--- the shape of a matrix, and the form in which it is listed
-pub record Shape : Type 0 where
-  pub rows : ℕ
-  pub columns : ℕ
-  pub form : Form
 
 -- whether a form is the general one
 abbrev pub is_general : Form → Bool

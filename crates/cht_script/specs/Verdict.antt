@@ -1,18 +1,20 @@
 -- What is wrong with a text, if anything: the first line, in order, at which a rule is broken, with the least code. Each line is
 -- judged from the items before it and from itself: by rules on lines, and by rules on names that know no lines.
-use Rattle.std.specs.Prelude.{ℕ, ◌^◌, Bool, true, false, ◌&&◌, not, nat_le, is_none, if◌then◌else◌, List, [], ◌∷◌, ◌++◌, length, map, Option, None, Some, Result, Ok, Err, option_map}
+use Rattle.std.specs.Prelude.{ℕ, ◌^◌, Bool, true, false, ◌&&◌, not, nat_le, if◌then◌else◌, List, [], ◌∷◌, ◌++◌, length, map, Option, None, Some, Result, Ok, Err, option_map}
 use Rattle.std.specs.List.{list_all, list_any, flat_map}
 use Rattle.std.specs.Str.{bytes_eq}
 use Rattle.mm_text.specs.declared.market.MarketFault.{MarketFault}
 use Rattle.mm_text.specs.Lines.{words_of, is_text}
 use Rattle.mm_text.specs.Faults.{first_code, or_else, first_fault}
 use Rattle.mm_text.specs.Block as listing
+use Rattle.cht_script.specs.declared.checked.Shape.{Shape}
+use Rattle.cht_script.specs.declared.script.Fault.{Fault}
 use Rattle.cht_script.specs.declared.script.Verb.{Verb}
 use Rattle.cht_script.specs.declared.script.Verb.TheVariants.{Copy, Add, Mul, TMul, MulT, Square, Full, Trace, Count, Print, Delete}
 use Rattle.cht_script.specs.Newest.{newest}
 use Rattle.cht_script.specs.Words.{is_name}
-use Rattle.cht_script.specs.Statements.{Said, Market, Act, said_in, names_said, new_names, input_names, Shape, general, is_general, shapes_fit, forms_fit, shape_bound}
-use Rattle.cht_script.specs.Items.{Fault, fault_at, fault_behind, Heading, heading_of, Item, Line, Block, items_behind, items_of}
+use Rattle.cht_script.specs.Statements.{Said, Market, Act, said_in, names_said, new_names, input_names, general, shapes_fit, forms_fit, shape_bound}
+use Rattle.cht_script.specs.Items.{fault_at, fault_behind, Heading, heading_of, Item, Line, Block, items_behind}
 
 -- ---- Names with shapes
 
@@ -183,35 +185,3 @@ fault_with (Ok heading) = first_fault item_fault [] (items_behind (Ok heading))
 -- The fault of a text, if it has one: line 0 and code 1 where it is too long; else that of the first line that has one.
 abbrev pub verdict : List ℕ → Option Fault
 verdict text = if nat_le (length text) most_bytes then fault_with (heading_of text) else Some (fault_at 0 1)
-
--- ---- What is run
-
--- whether a statement with a verb is one that is run so far
-abbrev pub is_run_verb : Verb → Bool
-is_run_verb Copy = false
-is_run_verb Add = true
-is_run_verb Mul = false
-is_run_verb TMul = false
-is_run_verb MulT = false
-is_run_verb Square = false
-is_run_verb Full = false
-is_run_verb Trace = true
-is_run_verb Count = false
-is_run_verb Print = true
-is_run_verb Delete = false
-
--- whether a line says such a statement
-abbrev pub is_run_said : Option Said → Bool
-is_run_said None = false
-is_run_said (Some (Market names)) = false
-is_run_said (Some (Act verb names)) = is_run_verb verb
-
--- whether an item is: a general block, or a line with such a statement
-abbrev pub is_run : Item → Bool
-is_run (Line n line) = is_run_said (said_in (words_of line))
-is_run (Block n name (Ok block)) = is_general block.form
-is_run (Block n name (Err fault)) = false
-
--- whether a text has no fault, and each of its items is run
-abbrev pub is_runnable : List ℕ → Bool
-is_runnable text = is_none (verdict text) && list_all is_run (items_of text)

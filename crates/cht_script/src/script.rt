@@ -1,10 +1,12 @@
 ghost use Rattle.std.specs.Prelude.{◌≡◌, true, false, MatchOption};
 ghost use Rattle.cht_script.specs.Words.{is_name};
-ghost use Rattle.cht_script.specs.Reading.{name_bytes};
+ghost use Rattle.cht_script.specs.Meaning.{line_of};
+ghost use Rattle.cht_script.specs.NotRun.{is_run_verb, is_run};
+ghost use Rattle.cht_script.specs.Reading.{name_bytes, deed_of};
 
 use crate::words::is_name;
 use cht_ids::List;
-use mm_text::Market;
+use mm_text::{Form, Market};
 
 /// A name: an ASCII letter, then letters, digits and `_`, 1 to 32 bytes in all. What stands past its bytes says nothing.
 #[derive(Clone, Copy)]
@@ -53,6 +55,18 @@ pub enum Verb {
     Delete,
 }
 
+impl Verb {
+    // Whether statements with this verb are run so far.
+    fn is_run(self) -> bool
+        ensures { result ≡ is_run_verb self }
+    {
+        match self {
+            Verb::Copy | Verb::Add | Verb::Trace | Verb::Count | Verb::Print | Verb::Delete => true,
+            Verb::Mul | Verb::TMul | Verb::MulT | Verb::Square | Verb::Full => false,
+        }
+    }
+}
+
 /// The names of a statement in the order of its line, the bound name first: the first `count` of them. Those past `count`
 /// repeat the first.
 #[derive(Clone, Copy)]
@@ -63,38 +77,59 @@ pub struct Names {
     pub third: Name,
 }
 
-/// Which bindings the inputs of a statement name, counted from 0 over all names that statements bind, in their order.
-/// `second` repeats `first` where there is one input.
-#[derive(Clone, Copy, Debug, PartialEq, Eq)]
-pub struct Slots {
-    pub first: u32,
-    pub second: u32,
-}
-
 /// A statement, with the number of its line, counted from 1.
 #[derive(Drop)]
 pub enum Statement {
     /// Binds a name to a matrix that the script lists.
-    Market {
-        line: u64,
-        to: Name,
-        market: Market,
-    },
+    Market { line: u64, to: Name, market: Market },
     /// Any other statement.
-    Act {
-        line: u64,
-        verb: Verb,
-        names: Names,
-        inputs: Slots,
-    },
+    Act { line: u64, verb: Verb, names: Names },
 }
 
-/// A script without a fault: the largest number of rows and columns, the side of a leaf block, how many levels the trees of
-/// its matrices have above the leaves, and its statements.
+impl Statement {
+    /// The number of its line, counted from 1.
+    pub fn line(&self) -> u64
+        ensures { result ≡ line_of (deed_of self.now) }
+    {
+        match self {
+            Statement::Market { line, .. } => *line,
+            Statement::Act { line, .. } => *line,
+        }
+    }
+
+    // Whether it is run so far.
+    pub(crate) fn is_run(&self) -> bool
+        ensures { result ≡ is_run (deed_of self.now) }
+    {
+        match self {
+            Statement::Market { market, .. } => market.form == Form::General,
+            Statement::Act { verb, .. } => verb.is_run(),
+        }
+    }
+}
+
+/// The rule that a text breaks: the line, counted from 1, and the code of the rule. A text that is too long has line 0.
+#[derive(Clone, Copy, Debug, PartialEq, Eq)]
+pub struct Fault {
+    pub line: u64,
+    pub code: u32,
+}
+
+/// A line `market NAME` whose block has a fault: its number, counted from 1, and the name.
+#[derive(Clone, Copy)]
+pub struct Begun {
+    pub line: u64,
+    pub to: Name,
+}
+
+/// What was read of a text: the largest number of rows and columns, the side of a leaf block, the statements before the first
+/// line that breaks a rule on lines, the line `market NAME` in whose block that line stands, and its fault. Where the text is
+/// too long or has no grid line, `grid` and `leaf` are 1 and no statement was read.
 #[derive(Drop)]
 pub struct Script {
     pub grid: u32,
     pub leaf: u32,
-    pub height: u32,
     pub statements: List<Statement>,
+    pub begun: Option<Begun>,
+    pub stop: Option<Fault>,
 }
