@@ -1,0 +1,13 @@
+pub mod Verbs
+pub mod Headings
+pub mod Cells
+pub mod BlockParts
+pub mod BlockTaken
+pub mod Taken
+pub mod Whole
+pub mod Known
+pub mod NameRules
+pub mod Noted
+pub mod Judged
+pub mod Split
+pub mod ScriptJudged

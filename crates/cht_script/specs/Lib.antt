@@ -9,3 +9,6 @@ pub mod Reading
 pub mod Limits
 pub mod Parsing
 pub mod Checking
+pub mod Steps
+pub mod Progress
+pub mod Judging

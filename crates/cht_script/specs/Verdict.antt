@@ -1,6 +1,6 @@
 -- What is wrong with a text, if anything: the first line, in order, at which a rule is broken, with the least code. Each line is
 -- judged from the items before it and from itself: by rules on lines, and by rules on names that know no lines.
-use Rattle.std.specs.Prelude.{ℕ, ◌^◌, Bool, true, false, ◌&&◌, not, nat_le, if◌then◌else◌, List, [], ◌∷◌, ◌++◌, length, map, Option, None, Some, Result, Ok, Err, option_map}
+use Rattle.std.specs.Prelude.{ℕ, ◌^◌, Bool, true, not, nat_le, if◌then◌else◌, List, [], ◌∷◌, ◌++◌, length, map, Option, None, Some, Result, Ok, Err, option_map}
 use Rattle.std.specs.List.{list_all, list_any, flat_map}
 use Rattle.std.specs.Str.{bytes_eq}
 use Rattle.mm_text.specs.declared.market.MarketFault.{MarketFault}
