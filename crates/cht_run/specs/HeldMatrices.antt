@@ -1,5 +1,5 @@
 -- What a run holds of the names that are bound: for each its matrix as a quadtree.
-use Rattle.std.specs.Prelude.{◌≡◌, ℕ, ◌*◌, ◌+◌, ◌≤◌, Bool, true, false, nat_le, List, Option, None, Some, option_map, IfSome}
+use Rattle.std.specs.Prelude.{◌≡◌, ℕ, ◌*◌, ◌+◌, ◌≤◌, Bool, true, false, nat_le, List, Option, None, Some, IfSome}
 use Rattle.std.specs.BTreeMap as tree
 use Rattle.std.specs.Cmp.Lexicographic.{slice_cmp}
 use Rattle.std.specs.Ordering.{nat_cmp}
@@ -19,7 +19,6 @@ use Rattle.cht_script.specs.Meaning.{limit, is_bounded, matrix_given}
 use Rattle.cht_run.specs.declared.held_matrix.HeldMatrix.{HeldMatrix}
 use Rattle.cht_run.specs.declared.operation.Operation.{Operation}
 use Rattle.cht_run.specs.declared.operation.Operation.TheVariants.{Add, Mul, TMul, MulT}
-use Rattle.cht_run.specs.Held.{Environment}
 
 -- ---- Matrices
 
@@ -52,10 +51,6 @@ pub record IsHeldAs (b h : ℕ) (m : Matrix) (one : HeldMatrix) : Type 0 where
 -- what is kept under a name
 abbrev pub look : List ℕ → tree.BTreeMap (Bor (List ℕ)) HeldMatrix → Option HeldMatrix
 look name named = tree.get_by (λ (key : Bor (List ℕ)). slice_cmp nat_cmp name key.now) named
-
--- the names as an environment
-abbrev pub environment_of : ℕ → ℕ → tree.BTreeMap (Bor (List ℕ)) HeldMatrix → Environment
-environment_of b h named = record { side = side_of b h; at = λ name. option_map (matrix_in b h) (look name named) }
 
 -- what is kept of all of them
 pub record AreHeld (b h : ℕ) (named : tree.BTreeMap (Bor (List ℕ)) HeldMatrix) : Type 0 where

@@ -22,7 +22,8 @@ use Rattle.cht_run.specs.declared.stop.Stop as stop
 use Rattle.cht_run.specs.declared.stop.Stop.TheVariants as stops
 use Rattle.cht_run.specs.Verdict.{too_great}
 use Rattle.cht_run.specs.Listed.{most_listed}
-use Rattle.cht_run.specs.Held.{Environment, matrix_at, shape_at}
+use Rattle.cht_run.specs.declared.held.Held.{Held}
+use Rattle.cht_run.specs.Held.{side_in, found_in, matrix_at, shape_at, IsWell}
 
 -- ---- Names
 
@@ -31,8 +32,8 @@ abbrev pub matrix_of_known : Known → Matrix
 matrix_of_known one = one.matrix
 
 -- what is held is what these names mean, all of them general matrices
-pub record Shows (env : Environment) (known : List Known) : Type 0 where
-  pub matrices : (name : List ℕ) → env.at name ≡ option_map matrix_of_known (newest (is_named name) known)
+pub record Shows (env : Held) (known : List Known) : Type 0 where
+  pub matrices : (name : List ℕ) → found_in env name ≡ option_map matrix_of_known (newest (is_named name) known)
   pub general : (name : List ℕ) → form_named known name ≡ General
 
 -- a matrix has the shape of its name, where that was bound and not deleted
@@ -49,11 +50,11 @@ Agree known shapes deleted =
 -- ---- One statement
 
 -- whether the shapes of two names fit a verb
-abbrev pub IsPair : Environment → Verb → Names → Type 0
+abbrev pub IsPair : Held → Verb → Names → Type 0
 IsPair env verb names = shapes_fit verb (shape_at env (name_bytes names.second)) (shape_at env (name_bytes names.third)) ≡ true
 
 -- what is known of a statement with a verb that comes next
-abbrev pub IsReadyAct : Environment → Verb → Names → Type 0
+abbrev pub IsReadyAct : Held → Verb → Names → Type 0
 IsReadyAct env Copy names = Unit {0}
 IsReadyAct env Add names = IsPair env Add names
 IsReadyAct env Mul names = IsPair env Mul names
@@ -67,12 +68,12 @@ IsReadyAct env Print names = Unit {0}
 IsReadyAct env Delete names = Unit {0}
 
 -- what is known of a statement that comes next
-abbrev pub IsReady : Environment → statement.Statement → Type 0
-IsReady env (statements.Market line to market) = IsGoodMarket (most_listed env.side) market × (market.form ≡ General)
+abbrev pub IsReady : Held → statement.Statement → Type 0
+IsReady env (statements.Market line to market) = IsGoodMarket (most_listed (side_in env)) market × (market.form ≡ General)
 IsReady env (statements.Act line verb names) = (names.count ≡ names_after verb) × IsReadyAct env verb names
 
 -- What one statement did: it took effect, or it was refused, or the run stopped in its text or before it.
-abbrev pub Acts : List Known → Deed → Result (Unit {0}) stop.Stop → Environment → Option (List ℕ) → Option (List ℕ) → Type 0
+abbrev pub Acts : List Known → Deed → Result (Unit {0}) stop.Stop → Held → Option (List ℕ) → Option (List ℕ) → Type 0
 Acts known deed (Ok done) later before after =
     (is_refused known deed ≡ false) × Shows later (known_by known deed) × Adds before (text_by known deed) after
 Acts known deed (Err stops.Refused) later before after = (is_refused known deed ≡ true) × (after ≡ before)
@@ -81,7 +82,7 @@ Acts known deed (Err stops.WriteFault) later before after =
 Acts known deed (Err stops.Memory) later before after = after ≡ before
 
 -- what a statement with a verb did to what is held, whichever names that shows
-abbrev pub ActsOn : Deed → Result (Unit {0}) stop.Stop → Environment → Environment → Option (List ℕ) → Option (List ℕ) → Type 0
+abbrev pub ActsOn : Deed → Result (Unit {0}) stop.Stop → Held → Held → Option (List ℕ) → Option (List ℕ) → Type 0
 ActsOn deed answer env later before after = (known : List Known) → Shows env known → Acts known deed answer later before after
 
 -- a text was written, or the test of what it tells failed, or the writing stopped
@@ -100,7 +101,7 @@ Stops stops.Memory line status = status ≡ Memory
 -- ---- All statements
 
 -- in the middle of a run: what is left to tell follows what was written, and what is held shows the names that are bound
-pub record IsRunning (all rest : List Step) (env : Environment) (known : List Known) (before now : Option (List ℕ)) : Type 0 where
+pub record IsRunning (all rest : List Step) (env : Held) (known : List Known) (before now : Option (List ℕ)) : Type 0 where
   pub text : List ℕ
   pub told : told_by [] (map deed_in all) ≡ after_text text (told_by known (map deed_in rest))
   pub wrote : Adds before text now

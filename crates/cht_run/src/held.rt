@@ -1,4 +1,4 @@
-ghost use Rattle.std.specs.Prelude.{◌≡◌, ◌≤◌, true, None, Ok, IfOk};
+ghost use Rattle.std.specs.Prelude.{◌≡◌, ◌≤◌, List, ℕ, true, None, Ok, IfOk};
 ghost use Rattle.dense_def.specs.Matrix.{height};
 ghost use Rattle.mm_text.specs.declared.market.Form.TheVariants.{General};
 ghost use Rattle.mm_text.specs.Cells.{cells_of};
@@ -8,7 +8,7 @@ ghost use Rattle.cht_script.specs.Meaning.{is_bounded, matrix_given};
 ghost use Rattle.cht_script.specs.Reading.{IsGoodMarket, matrix_of_market};
 ghost use Rattle.cht_run.specs.Listed.{most_listed};
 ghost use Rattle.cht_run.specs.HeldMatrices.{verb_of};
-ghost use Rattle.cht_run.specs.Held.{matrix_at, shape_at, without, IsBound, IsTraceOf};
+ghost use Rattle.cht_run.specs.Held.{side_in, found_in, matrix_at, shape_at, IsWell, Changes, IsBound, IsTraceOf};
 
 use crate::cells::cells_in;
 use crate::held_matrix::{HeldMatrix, combined, listed, trace};
@@ -18,7 +18,6 @@ use cht_ids::Memory;
 use mm_text::{Cell, Market};
 use std::alloc::Global;
 use std::collections::BTreeMap;
-use std::marker::Model;
 
 /// The names that a script has bound, with their matrices as quadtrees. A name's bytes are those of the script. Look-ups take
 /// time by the logarithm of the number of names, whichever they are.
@@ -31,25 +30,15 @@ pub(crate) struct Held<'a> {
     named: BTreeMap<&'a [u8], HeldMatrix>,
 }
 
-impl<'a> Model for Held<'a> {
-    ghost use Rattle.cht_run.specs.Held.{Environment};
-
-    ghost Value = { Environment };
-
-    ghost use Rattle.cht_run.specs.HeldMatrices.{environment_of, AreHeld};
-
-    ghost view = { λ held. environment_of held.leaf held.height held.named };
-
-    ghost invariant = { λ held. AreHeld held.leaf held.height held.named };
-}
-
 impl<'a> Held<'a> {
     /// No names, for leaf blocks of that side and so many levels above them. It takes no memory.
     pub(crate) fn new(alloc: Global, leaf: u32, height: u32) -> Held<'a>
         requires leaf { 1 ≤ leaf }
         requires small { leaf ≤ 64 }
         requires height { height ≤ 16 }
-        ensures { result ≡ record { side = side_of leaf height; at = λ name. None } }
+        ensures nothing { (name : List ℕ) → found_in result name ≡ None }
+        ensures side { side_in result ≡ side_of leaf height }
+        ensures well { IsWell result }
     {
         Held {
             alloc,
@@ -61,7 +50,8 @@ impl<'a> Held<'a> {
 
     /// Binds a name to a matrix that a script lists.
     pub(crate) fn bind_market(&mut self, name: &'a [u8], market: &Market) -> Result<(), Stop>
-        requires good { IsGoodMarket (most_listed self.old.side) market.now }
+        requires well { IsWell self.old }
+        requires good { IsGoodMarket (most_listed (side_in self.old)) market.now }
         requires general { market.now.form ≡ General }
         ensures { IsBound result true self.old name.now (matrix_of_market market.now) self.new }
     {
@@ -72,6 +62,7 @@ impl<'a> Held<'a> {
 
     /// Binds a name to the matrix of another. They share the tree.
     pub(crate) fn bind_copy(&mut self, name: &'a [u8], from: &[u8]) -> Result<(), Stop>
+        requires { IsWell self.old }
         ensures { IsBound result true self.old name.now (matrix_at self.old from.now) self.new }
     {
         // No script that is judged has a name here that is not bound.
@@ -91,7 +82,8 @@ impl<'a> Held<'a> {
         first: &[u8],
         second: &[u8],
     ) -> Result<(), Stop>
-        requires { shapes_fit (verb_of operation) (shape_at self.old first.now) (shape_at self.old second.now) ≡ true }
+        requires well { IsWell self.old }
+        requires shapes { shapes_fit (verb_of operation) (shape_at self.old first.now) (shape_at self.old second.now) ≡ true }
         ensures { IsBound result (is_bounded (verb_of operation) (matrix_at self.old first.now) (matrix_at self.old second.now))
             self.old name.now (matrix_given (verb_of operation) (matrix_at self.old first.now) (matrix_at self.old second.now)) self.new }
     {
@@ -111,7 +103,8 @@ impl<'a> Held<'a> {
 
     /// Ends a name. Its tree goes, where no other name shares it.
     pub(crate) fn delete(&mut self, name: &[u8])
-        ensures { self.new ≡ without self.old name.now }
+        requires { IsWell self.old }
+        ensures { Changes self.old name.now None self.new }
     {
         self.named.remove(name);
     }
@@ -119,7 +112,8 @@ impl<'a> Held<'a> {
     /// The sum of the numbers on the diagonal of a square matrix; `None` where the number of rows times the peak exceeds the
     /// limit.
     pub(crate) fn trace(&self, name: &[u8]) -> Result<Option<i128>, Memory>
-        requires { is_square (shape_at self.now name.now) ≡ true }
+        requires well { IsWell self.now }
+        requires square { is_square (shape_at self.now name.now) ≡ true }
         ensures { IfOk result (IsTraceOf (matrix_at self.now name.now)) }
     {
         match self.named.get(name) {
@@ -141,6 +135,7 @@ impl<'a> Held<'a> {
 
     /// The numbers of a matrix that are not zero, row by row and within a row by rising column.
     pub(crate) fn cells(&self, name: &[u8]) -> Result<Vec<Cell>, Memory>
+        requires { IsWell self.now }
         ensures { IfOk result (λ cells. cells.items ≡ cells_of (matrix_at self.now name.now)) }
     {
         match self.named.get(name) {

@@ -17,7 +17,7 @@ mod status;
 mod stop;
 mod tree;
 
-pub use command::cht;
 pub use cht_script::Fault;
+pub use command::cht;
 pub use plain::plain_call;
 pub use status::Status;

@@ -12,7 +12,7 @@ ghost use Rattle.cht_script.specs.Reading.{deed_of, name_bytes, names_of};
 ghost use Rattle.cht_script.specs.Checking.{AreSteps, deed_in};
 ghost use Rattle.cht_script.specs.NotRun.{not_run_in};
 ghost use Rattle.cht_run.specs.Listed.{most_listed};
-ghost use Rattle.cht_run.specs.Held.{matrix_at, shape_at, trace_fits, IsBound};
+ghost use Rattle.cht_run.specs.Held.{side_in, matrix_at, shape_at, IsWell, trace_fits, IsBound};
 ghost use Rattle.cht_run.specs.HeldMatrices.{verb_of};
 ghost use Rattle.cht_run.specs.Running.{IsPair, IsReadyAct, IsReady, ActsOn, Ran, IsWritten, Stops};
 
@@ -59,14 +59,12 @@ fn stopped(stop: Stop, line: u64) -> Status
 }
 
 // Does one statement.
-fn act<'a, K: Sink>(
-    held: &mut Held<'a>,
-    statement: &'a Statement,
-    out: &mut K,
-) -> Result<(), Stop>
+fn act<'a, K: Sink>(held: &mut Held<'a>, statement: &'a Statement, out: &mut K) -> Result<(), Stop>
+    requires well { IsWell held.old }
     requires ready { IsReady held.old statement.now }
     ensures acts { ActsOn (deed_of statement.now) result held.old held.new (K.took out.old) (K.took out.new) }
-    ensures side { OnOk result (held.new.side ≡ held.old.side) }
+    ensures side { OnOk result (side_in held.new ≡ side_in held.old) }
+    ensures well { OnOk result (IsWell held.new) }
     ensures cause { result ≡ Err Stop.WriteFault → Rose (K.faults out.old) (K.faults out.new) }
     ensures later { K.faults out.old ≤ K.faults out.new }
 {
@@ -83,10 +81,12 @@ fn act_on<'a, K: Sink>(
     names: &'a Names,
     out: &mut K,
 ) -> Result<(), Stop>
+    requires well { IsWell held.old }
     requires count { names.now.count ≡ names_after verb }
     requires ready { IsReadyAct held.old verb names.now }
     ensures acts { (line : ℕ) → ActsOn (Does line verb (names_of names.now)) result held.old held.new (K.took out.old) (K.took out.new) }
-    ensures side { OnOk result (held.new.side ≡ held.old.side) }
+    ensures side { OnOk result (side_in held.new ≡ side_in held.old) }
+    ensures well { OnOk result (IsWell held.new) }
     ensures cause { result ≡ Err Stop.WriteFault → Rose (K.faults out.old) (K.faults out.new) }
     ensures later { K.faults out.old ≤ K.faults out.new }
 {
@@ -110,7 +110,8 @@ fn act_on<'a, K: Sink>(
 
 // Binds the first of three names to what an operation makes of the matrices of the others.
 fn combine<'a>(held: &mut Held<'a>, operation: Operation, names: &'a Names) -> Result<(), Stop>
-    requires { IsPair held.old (verb_of operation) names.now }
+    requires well { IsWell held.old }
+    requires shapes { IsPair held.old (verb_of operation) names.now }
     ensures { IsBound result
         (is_bounded (verb_of operation) (matrix_at held.old (name_bytes names.now.second)) (matrix_at held.old (name_bytes names.now.third)))
         held.old (name_bytes names.now.first)
@@ -127,7 +128,8 @@ fn combine<'a>(held: &mut Held<'a>, operation: Operation, names: &'a Names) -> R
 
 // Writes the trace of a matrix, and a line feed.
 fn write_trace<K: Sink>(held: &Held, name: &[u8], out: &mut K) -> Result<(), Stop>
-    requires { is_square (shape_at held.now name.now) ≡ true }
+    requires well { IsWell held.now }
+    requires square { is_square (shape_at held.now name.now) ≡ true }
     ensures written { IsWritten result (trace_fits (matrix_at held.now name.now))
         (number_text (trace_of (matrix_at held.now name.now)) ++ 10 ∷ []) (K.took out.old) (K.took out.new) }
     ensures cause { result ≡ Err Stop.WriteFault → Rose (K.faults out.old) (K.faults out.new) }
@@ -141,6 +143,7 @@ fn write_trace<K: Sink>(held: &Held, name: &[u8], out: &mut K) -> Result<(), Sto
 
 // Writes how many entries the text of a matrix lists, and a line feed.
 fn write_count<K: Sink>(held: &Held, name: &[u8], out: &mut K) -> Result<(), Stop>
+    requires { IsWell held.now }
     ensures written { IsWritten result true (number_text (pos (length (cells_of (matrix_at held.now name.now)))) ++ 10 ∷ [])
         (K.took out.old) (K.took out.new) }
     ensures cause { result ≡ Err Stop.WriteFault → Rose (K.faults out.old) (K.faults out.new) }
@@ -164,6 +167,7 @@ fn write_line<K: Sink>(number: i128, out: &mut K) -> Result<(), Stop>
 
 // Writes the text of a matrix.
 fn print<K: Sink>(held: &Held, name: &[u8], out: &mut K) -> Result<(), Stop>
+    requires { IsWell held.now }
     ensures written { IsWritten result true (matrix_text General (matrix_at held.now name.now)) (K.took out.old) (K.took out.new) }
     ensures cause { result ≡ Err Stop.WriteFault → Rose (K.faults out.old) (K.faults out.new) }
     ensures later { K.faults out.old ≤ K.faults out.new }
