@@ -1,5 +1,5 @@
 -- What the parts of a statement do is what the statement does.
-use Rattle.std.proofs.Common.{◌≡◌, ℕ, Bool, true, false, not, List, [], ◌∷◌, ◌++◌, length, take, Option, refl, sym, ap, ◌∙◌, subst, subst₂, append-nil, pos}
+use Rattle.std.proofs.Common.{◌≡◌, ℕ, Bool, true, false, not, List, [], ◌∷◌, ◌++◌, length, take, Option, None, refl, sym, ap, ◌∙◌, subst, subst₂, append-nil, pos}
 use Rattle.std.specs.Prelude.{Result, Ok, Err, ◌*◌, nat_le}
 use Rattle.cht_io.specs.Bytes.{Adds, AddsFront}
 use Rattle.cht_io.proofs.Adds.{Adds_nil}

@@ -240,9 +240,9 @@ map_put : (b h : ℕ) (c : Bool) (put o : Option HeldMatrix) → option_map (mat
 map_put b h true put o = refl
 map_put b h false put o = refl
 
-if_some : {P : HeldMatrix → Type 0} (c : Bool) (put o : Option HeldMatrix) → IfSome put P → IfSome o P → IfSome (cond c put o) P
-if_some true put o p q = p
-if_some false put o p q = q
+if_some : (P : HeldMatrix → Type 0) (c : Bool) (put o : Option HeldMatrix) → IfSome put P → IfSome o P → IfSome (cond c put o) P
+if_some P true put o p q = p
+if_some P false put o p q = q
 
 -- one name is kept so from now on, or not at all
 pub changes : (held later : Held) (name : List ℕ) (put : Option HeldMatrix) (m : Option Matrix) → IsWell held → later.leaf ≡ held.leaf → later.height ≡ held.height
@@ -261,7 +261,7 @@ changes held later name put m well leaf height puts is same =
         leaf_low = well.leaf_low;
         leaf_high = well.leaf_high;
         low = well.low;
-        each = λ other. subst (λ o. IfSome o (IsHeld b h)) (sym (puts other)) (if_some (bytes_eq name other) put (look other held.named) is (well.each other));
+        each = λ other. subst (λ o. IfSome o (IsHeld b h)) (sym (puts other)) (if_some (IsHeld b h) (bytes_eq name other) put (look other held.named) is (well.each other));
       });
     }
 
@@ -287,3 +287,49 @@ is_found held name x well at =
 -- a name that is not found has a matrix without rows and columns
 pub not_found : (held : Held) (name : List ℕ) → look name held.named ≡ None → matrix_at held name ≡ zeros 0 0
 not_found held name at = ap (λ o. matrix_or (option_map (matrix_in held.leaf held.height) o)) at
+
+-- the sizes of a name that is found
+pub found_tall : (all : Held) (name : List ℕ) (x : HeldMatrix) → look name all.named ≡ Some x → x.rows ≡ height (matrix_at all name)
+found_tall all name x at =
+    sym (ap (λ o. height (matrix_or (option_map (matrix_in all.leaf all.height) o))) at ∙ held_tall all.leaf all.height x)
+
+-- a matrix that is bound to a name
+pub binds_held : (all later : Held) (name : List ℕ) (x : HeldMatrix) (m : Matrix) → IsWell all → later.leaf ≡ all.leaf → later.height ≡ all.height
+    → Puts all.named later.named name (Some x) → IsHeldAs all.leaf all.height m x → Changes all name (Some m) later
+binds_held all later name x m well leaf height puts is =
+    changes all later name (Some x) (Some m) well leaf height puts is.held (ap Some is.matrix)
+
+-- one more owner of a matrix that is found
+pub copied : (all : Held) (name : List ℕ) (x one : HeldMatrix) → IsWell all → look name all.named ≡ Some x → one ≡ x
+    → IsHeldAs all.leaf all.height (matrix_at all name) one
+copied all name x one well at same =
+    let found = is_found all name x well at in
+    subst (IsHeldAs all.leaf all.height (matrix_at all name)) (sym same) (record { held = found.held; matrix = sym found.matrix })
+
+-- the inputs of an operation, by their names
+pub pair_shapes : (operation : Operation) (all : Held) (a b : List ℕ) (x y : HeldMatrix) → IsWell all → look a all.named ≡ Some x → look b all.named ≡ Some y
+    → shapes_fit (verb_of operation) (shape_at all a) (shape_at all b) ≡ true → shapes_fit (verb_of operation) (shape_held x) (shape_held y) ≡ true
+pair_shapes operation all a b x y well p q fits =
+    sym (ap₂ (shapes_fit (verb_of operation)) (is_found all a x well p).shape (is_found all b y well q).shape) ∙ fits
+
+-- what an operation makes of them
+pub pair_refused : (operation : Operation) (all : Held) (a b : List ℕ) (x y : HeldMatrix) → IsWell all → look a all.named ≡ Some x → look b all.named ≡ Some y
+    → IsCombined all.leaf all.height operation x y None → is_bounded (verb_of operation) (matrix_at all a) (matrix_at all b) ≡ false
+pair_refused operation all a b x y well p q is =
+    ap₂ (is_bounded (verb_of operation)) (is_found all a x well p).matrix (is_found all b y well q).matrix ∙ is
+
+pub pair_made : (operation : Operation) (all : Held) (a b : List ℕ) (x y one : HeldMatrix) → IsWell all → look a all.named ≡ Some x → look b all.named ≡ Some y
+    → IsCombined all.leaf all.height operation x y (Some one)
+    → (is_bounded (verb_of operation) (matrix_at all a) (matrix_at all b) ≡ true)
+    × IsHeldAs all.leaf all.height (matrix_given (verb_of operation) (matrix_at all a) (matrix_at all b)) one
+pair_made operation all a b x y one well p q is =
+    let first = (is_found all a x well p).matrix in
+    let second = (is_found all b y well q).matrix in (
+      ap₂ (is_bounded (verb_of operation)) first second ∙ is.0,
+      subst₂ (λ m n. IsHeldAs all.leaf all.height (matrix_given (verb_of operation) m n) one) (sym first) (sym second) is.1,
+    )
+
+-- the matrix of a trace is square
+pub square_found : (all : Held) (name : List ℕ) (x : HeldMatrix) → IsWell all → look name all.named ≡ Some x → is_square (shape_at all name) ≡ true
+    → x.rows ≡ x.columns
+square_found all name x well at fits = eqb-true x.rows x.columns (sym (ap is_square (is_found all name x well at).shape) ∙ fits)

@@ -18,7 +18,7 @@ use Rattle.quad_matrix.proofs.ForOthers.{root_of_leaf, root_of_node}
 use Rattle.quad_matrix.proofs.ForOthers.{quadrants_canonical, block_of_quadrants}
 use Rattle.mm_text.specs.declared.market.Cell.{Cell}
 use Rattle.mm_text.specs.Cells.{is_zero, cells_of_row, cells_of_rows}
-use Rattle.cht_run.proofs.Completed.{entry_right}
+use Rattle.dense_def.proofs.Completed.{entry_right}
 use Rattle.cht_run.specs.Parts.{content_of}
 use Rattle.cht_run.specs.Rows.{row_cells, halves_of}
 

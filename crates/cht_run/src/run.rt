@@ -5,14 +5,14 @@ ghost use Rattle.chunk_codec.specs.Spots.{side_of};
 ghost use Rattle.dense_def.specs.Matrix.{trace_of};
 ghost use Rattle.mm_text.specs.declared.market.Form.TheVariants.{General};
 ghost use Rattle.mm_text.specs.Cells.{cells_of};
-ghost use Rattle.mm_text.specs.Written.{matrix_text};
+ghost use Rattle.mm_text.specs.Written.{matrix_text, text_of_cells};
 ghost use Rattle.cht_script.specs.Statements.{is_square, names_after};
 ghost use Rattle.cht_script.specs.Meaning.{told_by, is_bounded, matrix_given, Acts as Does};
 ghost use Rattle.cht_script.specs.Reading.{deed_of, name_bytes, names_of};
 ghost use Rattle.cht_script.specs.Checking.{AreSteps, deed_in};
 ghost use Rattle.cht_script.specs.NotRun.{not_run_in};
 ghost use Rattle.cht_run.specs.Listed.{most_listed};
-ghost use Rattle.cht_run.specs.Held.{side_in, matrix_at, shape_at, IsWell, trace_fits, IsBound};
+ghost use Rattle.cht_run.specs.Held.{side_in, matrix_at, shape_at, IsWell, Changes, trace_fits, IsBound};
 ghost use Rattle.cht_run.specs.HeldMatrices.{verb_of};
 ghost use Rattle.cht_run.specs.Running.{IsPair, IsReadyAct, IsReady, ActsOn, Ran, IsWritten, Stops};
 
@@ -23,7 +23,7 @@ use crate::stop::Stop;
 use cht_ids::write_number;
 use cht_io::{Sink, write_all};
 use cht_script::{Checked, Fault, Names, Statement, Verb};
-use mm_text::{Form, write_market};
+use mm_text::{Cell, Form, write_market};
 use std::alloc::Global;
 
 /// Runs the statements of a script, in order, up to the first that is refused.
@@ -91,7 +91,7 @@ fn act_on<'a, K: Sink>(
     ensures later { K.faults out.old ≤ K.faults out.new }
 {
     match verb {
-        Verb::Copy => held.bind_copy(names.first.as_bytes(), names.second.as_bytes()),
+        Verb::Copy => copy(held, names),
         Verb::Add => combine(held, Operation::Add, names),
         Verb::Mul => combine(held, Operation::Mul, names),
         Verb::TMul => combine(held, Operation::TMul, names),
@@ -100,12 +100,28 @@ fn act_on<'a, K: Sink>(
         Verb::Count => write_count(held, names.first.as_bytes(), out),
         Verb::Print => print(held, names.first.as_bytes(), out),
         Verb::Delete => {
-            held.delete(names.first.as_bytes());
+            delete(held, names);
             Ok(())
         }
         // They want a symmetric matrix, and no script that has one is run.
         Verb::Square | Verb::Full => Ok(()),
     }
+}
+
+// Binds the first of two names to the matrix of the other.
+fn copy<'a>(held: &mut Held<'a>, names: &'a Names) -> Result<(), Stop>
+    requires { IsWell held.old }
+    ensures { IsBound result true held.old (name_bytes names.now.first) (matrix_at held.old (name_bytes names.now.second)) held.new }
+{
+    held.bind_copy(names.first.as_bytes(), names.second.as_bytes())
+}
+
+// Ends a name.
+fn delete(held: &mut Held, names: &Names)
+    requires { IsWell held.old }
+    ensures { Changes held.old (name_bytes names.now.first) None held.new }
+{
+    held.delete(names.first.as_bytes())
 }
 
 // Binds the first of three names to what an operation makes of the matrices of the others.
@@ -174,6 +190,20 @@ fn print<K: Sink>(held: &Held, name: &[u8], out: &mut K) -> Result<(), Stop>
 {
     let (rows, columns) = held.size(name);
     let cells = held.cells(name)?;
-    write_market(out, Form::General, rows, columns, &cells)?;
+    write_cells(rows, columns, &cells, out)
+}
+
+// Writes the text of a matrix that has these numbers other than 0.
+fn write_cells<K: Sink>(
+    rows: u32,
+    columns: u32,
+    cells: &[Cell],
+    out: &mut K,
+) -> Result<(), Stop>
+    ensures written { IsWritten result true (text_of_cells General rows columns cells.now) (K.took out.old) (K.took out.new) }
+    ensures cause { result ≡ Err Stop.WriteFault → Rose (K.faults out.old) (K.faults out.new) }
+    ensures later { K.faults out.old ≤ K.faults out.new }
+{
+    write_market(out, Form::General, rows, columns, cells)?;
     Ok(())
 }

@@ -56,6 +56,3 @@ loop-step-preserved g c =
           (subst (λ (steps : List Step). IsGoing c.args.checked.now.grid c.args.checked.now.steps steps env (g.K.Sink.took c.args.out.now) (g.K.Sink.took c.loop-step.out)) next c.loop-step.invariant.going)
           c.in-Ok.ensures.acts;
     }
-
-pub returns-clause-ran : goal.returns-clause-ran
-returns-clause-ran g c = search rules
