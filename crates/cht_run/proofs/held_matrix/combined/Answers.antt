@@ -1,6 +1,4 @@
-use Rattle.std.proofs.Common.{◌≡◌, [], ◌∷◌, sym, ap, ap₂, ◌∙◌}
-use Rattle.quad_matrix.specs.Goals.{goal_at}
-use Rattle.cht_run.specs.HeldMatrices.{what_of, sizes_of}
+use Rattle.std.proofs.Common.{sym, ap, ◌∙◌}
 use Rattle.cht_run.proofs.Kept.{combined_tested, combined_fits, combined_as}
 use Rattle.cht_run.proofs.held_matrix.combined.Goals as goal
 

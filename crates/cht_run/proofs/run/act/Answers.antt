@@ -11,6 +11,6 @@ returns-in-Market-clause-acts g c =
     let took = g.K.Sink.took c.args.out.now in
     let market = c.in-Market.market in
     let ready = subst (λ (one : Statement). IsReady c.args.held.now one) c.in-Market.is c.requires.ready in
-    subst (λ (one : Statement). ActsOn (deed_of one) c.bind_market.result c.args.held.now c.bind_market.new.held took took) (sym c.in-Market.is)
-    (market_acts c.args.held.now c.bind_market.new.held _ (name_bytes c.in-Market.to) market.form (matrix_of_market market) c.bind_market.result took ready.1
+    subst (λ (one : Statement). ActsOn (deed_of one) c.bind_market.result c.args.held.now c.bind_market.new.self took took) (sym c.in-Market.is)
+    (market_acts c.args.held.now c.bind_market.new.self _ (name_bytes c.in-Market.to) market.form (matrix_of_market market) c.bind_market.result took ready.1
     (rw c.as_bytes.ensures at c.bind_market.ensures))

@@ -1,4 +1,4 @@
-use Rattle.std.proofs.Common.{Some, None, refl, sym}
+use Rattle.std.proofs.Common.{Some, refl, sym}
 use Rattle.std.proofs.lemmas.Map.Text.{btree_map_updates_str}
 use Rattle.cht_script.specs.Meaning.{matrix_given}
 use Rattle.cht_run.specs.Held.{matrix_at}
