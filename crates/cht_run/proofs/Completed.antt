@@ -4,34 +4,14 @@ use Rattle.std.proofs.lemmas.Bool.{cases_lt}
 use Rattle.std.proofs.lemmas.Int.{ints}
 use Rattle.std.proofs.lemmas.List.{get_or_past}
 use Rattle.std.proofs.lemmas.List.Elements.{All-get_or}
-use Rattle.dense_def.specs.Matrix.{Matrix, height, entry, IsMatrix, made, plus, trace_of, zeros, peak_of, sum_below, magnitudes_below, TraceFits}
+use Rattle.dense_def.specs.Matrix.{Matrix, height, entry, IsMatrix, made, plus, trace_of, zeros, peak_of, sum_below, magnitudes_below, TraceFits, completed}
 use Rattle.dense_def.proofs.Sums.{sum_below_ext, sum_below_split, sum_below_zero, magnitudes_below_ext, magnitudes_below_split, magnitudes_below_bound}
 use Rattle.dense_def.proofs.Entries.{height-made, entry_made, IsMatrix-made, made_ext, made_same, made_entry}
 use Rattle.dense_def.proofs.Operations.{entry-plus, height-plus}
 use Rattle.dense_def.proofs.Peaks.{entry_le_peak, peak_least, peak-zero}
-use Rattle.cht_run.specs.Held.{completed}
-
--- ---- Numbers outside a matrix
-
--- below the last row there are zeros
-pub entry_below : (m : Matrix) (i j : ℕ) → height m ≤ i → entry m i j ≡ pos 0
-entry_below m i j le = ap (λ (row : List ℤ). get_or row j (pos 0)) (get_or_past m.rows i [] le)
-
--- and right of the last column
-pub entry_right : (m : Matrix) (i j : ℕ) → IsMatrix m → m.columns ≤ j → entry m i j ≡ pos 0
-entry_right m i j whole le =
-    elim (cases_lt i (height m)) [
-      | inl lt ↦ get_or_past (get_or m.rows i []) j (pos 0) (rw (All-get_or (λ (row : List ℤ). length row ≡ m.columns) m.rows i [] lt whole) le)
-      | inr past ↦ entry_below m i j past
-    ]
+use Rattle.dense_def.proofs.Completed.{entry_below, entry_right, height-completed, entry-completed}
 
 -- ---- The completed matrix
-
-pub height-completed : (side : ℕ) (m : Matrix) → height (completed side m) ≡ side
-height-completed side m = height-made side side (λ i j. entry m i j)
-
-pub entry-completed : (side : ℕ) (m : Matrix) (i j : ℕ) → i < side → j < side → entry (completed side m) i j ≡ entry m i j
-entry-completed side m i j p q = entry_made side side (λ i j. entry m i j) i j p q
 
 -- a matrix read back from its completed one
 pub read_back : (side rows columns : ℕ) (m : Matrix) → IsMatrix m → height m ≡ rows → m.columns ≡ columns → rows ≤ side → columns ≤ side

@@ -1,130 +1,167 @@
 -- What the parts of a statement do is what the statement does.
-use Rattle.std.proofs.Common.{◌≡◌, ℕ, zero, suc, ◌<◌, Bool, true, false, not, List, [], ◌∷◌, ◌++◌, length, take, Option, refl, sym, ap, ◌∙◌, append-nil}
-use Rattle.std.specs.Prelude.{map, Result, Ok, Err}
+use Rattle.std.proofs.Common.{◌≡◌, ℕ, Bool, true, false, not, List, [], ◌∷◌, ◌++◌, length, take, Option, None, refl, sym, ap, ◌∙◌, subst, subst₂, append-nil, pos}
+use Rattle.std.specs.Prelude.{Result, Ok, Err, ◌*◌, nat_le}
+use Rattle.cht_io.specs.Bytes.{Adds, AddsFront}
 use Rattle.cht_io.proofs.Adds.{Adds_nil}
-use Rattle.dense_def.specs.Matrix.{height}
+use Rattle.cht_ids.specs.Numeral.{number_text}
+use Rattle.dense_def.specs.Matrix.{Matrix, plus, times, tmul_of, mult_of, trace_of}
+use Rattle.mm_text.specs.declared.market.Form.{Form}
+use Rattle.mm_text.specs.declared.market.Form.TheVariants.{General}
+use Rattle.mm_text.specs.Cells.{cells_of, cells_listed}
+use Rattle.mm_text.specs.Written.{matrix_text}
 use Rattle.cht_script.specs.declared.script.Names.{Names}
-use Rattle.cht_script.specs.declared.script.Slots.{Slots}
-use Rattle.cht_script.specs.declared.script.Verb.TheVariants.{Add, Trace, Print}
-use Rattle.cht_script.specs.Statements.{Shape}
-use Rattle.cht_script.specs.Meaning.{Acts as Does}
-use Rattle.cht_script.specs.Reading.{IsGoodAct, name_bytes, names_of}
-use Rattle.cht_run.specs.declared.run.Stop.{Stop}
-use Rattle.cht_run.specs.declared.run.Stop.TheVariants as stops
-use Rattle.cht_run.specs.Held.{Environment, shape_of_known, matrix_at, form_at}
-use Rattle.cht_run.specs.Running.{Acts, IsReady, IsAdded, IsTraceWritten, IsPrinted}
-use Rattle.cht_run.proofs.Named.{has_shape}
+use Rattle.cht_script.specs.declared.script.Verb.{Verb}
+use Rattle.cht_script.specs.declared.script.Verb.TheVariants as verb
+use Rattle.cht_script.specs.Meaning.{Known, Deed, Lists, Acts as Does, named_matrix, matrix_named, form_named, is_bounded, matrix_given, is_refused, known_by, text_by}
+use Rattle.cht_script.specs.Reading.{name_bytes, names_of}
+use Rattle.cht_run.specs.declared.stop.Stop.{Stop}
+use Rattle.cht_run.specs.declared.stop.Stop.TheVariants as stops
+use Rattle.cht_run.specs.declared.operation.Operation.{Operation}
+use Rattle.cht_run.specs.declared.operation.Operation.TheVariants.{Add, Mul, TMul, MulT}
+use Rattle.cht_run.specs.declared.held.Held.{Held}
+use Rattle.cht_run.specs.Held.{matrix_at, Changes, IsBound, trace_fits}
+use Rattle.cht_run.specs.HeldMatrices.{verb_of}
+use Rattle.cht_run.specs.Running.{Shows, Acts, ActsOn, IsWritten}
+use Rattle.cht_run.proofs.Named.{shows_bound, shows_deleted, held_is}
 
--- what is known of the inputs of a sum
-pub record AreSummands (env : Environment) (inputs : Slots) : Type 0 where
-  pub first : inputs.first < length env.known
-  pub second : inputs.second < length env.known
-  pub rows : height (matrix_at env inputs.first) ≡ height (matrix_at env inputs.second)
-  pub columns : (matrix_at env inputs.first).columns ≡ (matrix_at env inputs.second).columns
+-- ---- The names of a statement
 
-pub are_summands : (env : Environment) (names : List (List ℕ)) (inputs : Slots) → IsReady env Add names inputs → AreSummands env inputs
-are_summands env [] inputs ready = absurd ready.1
-are_summands env (c ∷ []) inputs ready = absurd ready.1
-are_summands env (c ∷ a ∷ []) inputs ready = absurd ready.1
-are_summands env (c ∷ a ∷ b ∷ []) inputs ready =
-    let first = has_shape env a inputs.first ready.0 ready.1.1 in
-    let second = has_shape env b inputs.second ready.0 ready.1.2 in
-    record {
-      first = first.within;
-      second = second.within;
-      rows = first.rows ∙ sym second.rows;
-      columns = first.columns ∙ sym second.columns;
-    }
-are_summands env (c ∷ a ∷ b ∷ d ∷ names) inputs ready = absurd ready.1
+pub one_name : (names : Names) → names.count ≡ 1 → names_of names ≡ name_bytes names.first ∷ []
+one_name names e = ap (λ n. take n (name_bytes names.first ∷ name_bytes names.second ∷ name_bytes names.third ∷ [])) e
 
-not_true : {b : Bool} → b ≡ true → not b ≡ false
-not_true e = ap not e
+pub two_names : (names : Names) → names.count ≡ 2 → names_of names ≡ name_bytes names.first ∷ name_bytes names.second ∷ []
+two_names names e = ap (λ n. take n (name_bytes names.first ∷ name_bytes names.second ∷ name_bytes names.third ∷ [])) e
 
-not_false : {b : Bool} → b ≡ false → not b ≡ true
-not_false e = ap not e
+pub three_names : (names : Names) → names.count ≡ 3
+    → names_of names ≡ name_bytes names.first ∷ name_bytes names.second ∷ name_bytes names.third ∷ []
+three_names names e = ap (λ n. take n (name_bytes names.first ∷ name_bytes names.second ∷ name_bytes names.third ∷ [])) e
 
--- a sum that was bound, or not
-pub added : (env later : Environment) (c a b : List ℕ) (inputs : Slots) (shape : Shape) (r : Result (Unit {0}) Stop) (line : ℕ)
-    (before : Option (List ℕ)) → IsGoodAct (map shape_of_known env.known) Add (c ∷ a ∷ b ∷ []) inputs shape
-    → IsAdded r env c inputs.first inputs.second later → Acts (Does line Add (c ∷ a ∷ b ∷ [])) r env later before before
-added env later c a b inputs shape (Ok done) line before good is =
-    let first = has_shape env a inputs.first shape good.1 in
-    let second = has_shape env b inputs.second shape good.2 in
-    (rw (first.matrix, second.matrix) (not_true is.0), rw (first.matrix, first.form, second.matrix) is.1, Adds_nil before)
-added env later c a b inputs shape (Err stops.Refused) line before good is =
-    let first = has_shape env a inputs.first shape good.1 in
-    let second = has_shape env b inputs.second shape good.2 in
-    (rw (first.matrix, second.matrix) (not_false is.0), refl)
-added env later c a b inputs shape (Err stops.WriteFault) line before good is = absurd is
-added env later c a b inputs shape (Err stops.Memory) line before good is = refl
+-- ---- Statements that bind a name
 
-adds_with : (n : ℕ) (env later : Environment) (c a b : List ℕ) (inputs : Slots) (r : Result (Unit {0}) Stop) (line : ℕ)
-    (before : Option (List ℕ)) → IsReady env Add (take n (c ∷ a ∷ b ∷ [])) inputs → IsAdded r env c inputs.first inputs.second later
-    → Acts (Does line Add (take n (c ∷ a ∷ b ∷ []))) r env later before before
-adds_with zero env later c a b inputs r line before ready is = absurd ready.1
-adds_with (suc zero) env later c a b inputs r line before ready is = absurd ready.1
-adds_with (suc (suc zero)) env later c a b inputs r line before ready is = absurd ready.1
-adds_with (suc (suc (suc zero))) env later c a b inputs r line before ready is =
-    added env later c a b inputs ready.0 r line before ready.1 is
-adds_with (suc (suc (suc (suc n)))) env later c a b inputs r line before ready is =
-    added env later c a b inputs ready.0 r line before ready.1 is
+-- a name that was bound, or not
+makes : (known : List Known) (env later : Held) (deed : Deed) (fits : Bool) (c : List ℕ) (m : Matrix) (form : Form)
+    (r : Result (Unit {0}) Stop) (before : Option (List ℕ))
+    → is_refused known deed ≡ not fits → known_by known deed ≡ known ++ named_matrix form m c ∷ [] → text_by known deed ≡ [] → form ≡ General
+    → Shows env known → IsBound r fits env c m later → Acts known deed r later before before
+makes known env later deed fits c m form (Ok done) before refused by text general shows is = (
+  refused ∙ ap not is.0,
+  subst (Shows later) (sym by) (shows_bound env later known c form m shows general is.1),
+  subst (λ t. Adds before t before) (sym text) (Adds_nil before),
+)
+makes known env later deed fits c m form (Err stops.Refused) before refused by text general shows is = (refused ∙ ap not is, refl)
+makes known env later deed fits c m form (Err stops.WriteFault) before refused by text general shows is = absurd is
+makes known env later deed fits c m form (Err stops.Memory) before refused by text general shows is = refl
 
--- the same for the names of a statement
-pub adds : (env later : Environment) (names : Names) (inputs : Slots) (r : Result (Unit {0}) Stop) (line : ℕ) (before : Option (List ℕ))
-    → IsReady env Add (names_of names) inputs → IsAdded r env (name_bytes names.first) inputs.first inputs.second later
-    → Acts (Does line Add (names_of names)) r env later before before
-adds env later names inputs r line before ready is =
-    adds_with names.count env later (name_bytes names.first) (name_bytes names.second) (name_bytes names.third) inputs r line before ready is
+-- a matrix that is listed
+pub market_acts : (env later : Held) (line : ℕ) (c : List ℕ) (form : Form) (m : Matrix) (r : Result (Unit {0}) Stop)
+    (before : Option (List ℕ)) → form ≡ General → IsBound r true env c m later → ActsOn (Lists line c form m) r env later before before
+market_acts env later line c form m r before general is = λ known shows.
+    makes known env later (Lists line c form m) true c m form r before refl refl refl general shows is
 
-same_environment : (env : Environment) → env ≡ record env { known = env.known ++ [] }
-same_environment env = ap (λ known. record env { known = known }) (sym (append-nil env.known))
+copies : (env later : Held) (line : ℕ) (c a : List ℕ) (r : Result (Unit {0}) Stop) (before : Option (List ℕ))
+    → IsBound r true env c (matrix_at env a) later → ActsOn (Does line verb.Copy (c ∷ a ∷ [])) r env later before before
+copies env later line c a r before is = λ known shows.
+    makes known env later (Does line verb.Copy (c ∷ a ∷ [])) true c (matrix_named known a) (form_named known a) r before refl refl refl (shows.general a) shows
+    (subst (λ m. IsBound r true env c m later) (held_is env known a shows) is)
 
--- what is known of the input of a trace
-pub record IsTraced (env : Environment) (inputs : Slots) : Type 0 where
-  pub within : inputs.first < length env.known
-  pub square : height (matrix_at env inputs.first) ≡ (matrix_at env inputs.first).columns
+-- a copy
+pub copy_acts : (env later : Held) (line : ℕ) (names : Names) (r : Result (Unit {0}) Stop) (before : Option (List ℕ)) → names.count ≡ 2
+    → IsBound r true env (name_bytes names.first) (matrix_at env (name_bytes names.second)) later
+    → ActsOn (Does line verb.Copy (names_of names)) r env later before before
+copy_acts env later line names r before count is =
+    subst (λ ns. ActsOn (Does line verb.Copy ns) r env later before before) (sym (two_names names count))
+    (copies env later line (name_bytes names.first) (name_bytes names.second) r before is)
 
-pub is_traced : (env : Environment) (names : List (List ℕ)) (inputs : Slots) → IsReady env Trace names inputs → IsTraced env inputs
-is_traced env [] inputs ready = absurd ready.1
-is_traced env (a ∷ []) inputs ready =
-    let has = has_shape env a inputs.first ready.0 ready.1.0 in
-    record { within = has.within; square = has.rows ∙ ready.1.1 ∙ sym has.columns }
-is_traced env (a ∷ b ∷ names) inputs ready = absurd ready.1
+-- one matrix of two was bound, or does not fit
+abbrev pub IsMade : Operation → Result (Unit {0}) Stop → Held → List ℕ → Matrix → Matrix → Held → Type 0
+IsMade operation r env c m n later = IsBound r (is_bounded (verb_of operation) m n) env c (matrix_given (verb_of operation) m n) later
 
-pub is_printed : (env : Environment) (names : List (List ℕ)) (inputs : Slots) → IsReady env Print names inputs
-    → inputs.first < length env.known
-is_printed env [] inputs ready = absurd ready.1
-is_printed env (a ∷ []) inputs ready = (has_shape env a inputs.first ready.0 ready.1).within
-is_printed env (a ∷ b ∷ names) inputs ready = absurd ready.1
+combines : (operation : Operation) (env later : Held) (line : ℕ) (c a b : List ℕ) (r : Result (Unit {0}) Stop) (before : Option (List ℕ))
+    → IsMade operation r env c (matrix_at env a) (matrix_at env b) later
+    → ActsOn (Does line (verb_of operation) (c ∷ a ∷ b ∷ [])) r env later before before
+combines Add env later line c a b r before is = λ known shows.
+    makes known env later (Does line verb.Add (c ∷ a ∷ b ∷ [])) (is_bounded verb.Add (matrix_named known a) (matrix_named known b)) c
+    (plus (matrix_named known a) (matrix_named known b)) (form_named known a) r before refl refl refl (shows.general a) shows
+    (subst₂ (λ m n. IsMade Add r env c m n later) (held_is env known a shows) (held_is env known b shows) is)
+combines Mul env later line c a b r before is = λ known shows.
+    makes known env later (Does line verb.Mul (c ∷ a ∷ b ∷ [])) (is_bounded verb.Mul (matrix_named known a) (matrix_named known b)) c
+    (times (matrix_named known a) (matrix_named known b)) General r before refl refl refl refl shows
+    (subst₂ (λ m n. IsMade Mul r env c m n later) (held_is env known a shows) (held_is env known b shows) is)
+combines TMul env later line c a b r before is = λ known shows.
+    makes known env later (Does line verb.TMul (c ∷ a ∷ b ∷ [])) (is_bounded verb.TMul (matrix_named known a) (matrix_named known b)) c
+    (tmul_of (matrix_named known a) (matrix_named known b)) General r before refl refl refl refl shows
+    (subst₂ (λ m n. IsMade TMul r env c m n later) (held_is env known a shows) (held_is env known b shows) is)
+combines MulT env later line c a b r before is = λ known shows.
+    makes known env later (Does line verb.MulT (c ∷ a ∷ b ∷ [])) (is_bounded verb.MulT (matrix_named known a) (matrix_named known b)) c
+    (mult_of (matrix_named known a) (matrix_named known b)) General r before refl refl refl refl shows
+    (subst₂ (λ m n. IsMade MulT r env c m n later) (held_is env known a shows) (held_is env known b shows) is)
 
--- a trace that was written, or not
-pub traced : (env : Environment) (names : List (List ℕ)) (inputs : Slots) (r : Result (Unit {0}) Stop) (line : ℕ)
-    (before after : Option (List ℕ)) → IsReady env Trace names inputs
-    → IsTraceWritten r (matrix_at env inputs.first) before after → Acts (Does line Trace names) r env env before after
-traced env [] inputs r line before after ready is = absurd ready.1
-traced env (a ∷ []) inputs (Ok done) line before after ready is =
-    let has = has_shape env a inputs.first ready.0 ready.1.0 in
-    (rw has.matrix (not_true is.0), same_environment env, rw has.matrix is.1)
-traced env (a ∷ []) inputs (Err stops.Refused) line before after ready is =
-    let has = has_shape env a inputs.first ready.0 ready.1.0 in
-    (rw has.matrix (not_false is.0), is.1)
-traced env (a ∷ []) inputs (Err stops.WriteFault) line before after ready is =
-    let has = has_shape env a inputs.first ready.0 ready.1.0 in
-    (rw has.matrix (not_true is.0), rw has.matrix is.1)
-traced env (a ∷ []) inputs (Err stops.Memory) line before after ready is = is
-traced env (a ∷ b ∷ names) inputs r line before after ready is = absurd ready.1
+-- a sum or a product
+pub combine_acts : (operation : Operation) (env later : Held) (line : ℕ) (names : Names) (r : Result (Unit {0}) Stop)
+    (before : Option (List ℕ)) → names.count ≡ 3
+    → IsMade operation r env (name_bytes names.first) (matrix_at env (name_bytes names.second)) (matrix_at env (name_bytes names.third)) later
+    → ActsOn (Does line (verb_of operation) (names_of names)) r env later before before
+combine_acts operation env later line names r before count is =
+    subst (λ ns. ActsOn (Does line (verb_of operation) ns) r env later before before) (sym (three_names names count))
+    (combines operation env later line (name_bytes names.first) (name_bytes names.second) (name_bytes names.third) r before is)
 
--- a matrix that was printed, or not
-pub printed : (env : Environment) (names : List (List ℕ)) (inputs : Slots) (r : Result (Unit {0}) Stop) (line : ℕ)
-    (before after : Option (List ℕ)) → IsReady env Print names inputs
-    → IsPrinted r (form_at env inputs.first) (matrix_at env inputs.first) before after → Acts (Does line Print names) r env env before after
-printed env [] inputs r line before after ready is = absurd ready.1
-printed env (a ∷ []) inputs (Ok done) line before after ready is =
-    let has = has_shape env a inputs.first ready.0 ready.1 in
-    (refl, same_environment env, rw (has.matrix, has.form) is)
-printed env (a ∷ []) inputs (Err stops.Refused) line before after ready is = absurd is
-printed env (a ∷ []) inputs (Err stops.WriteFault) line before after ready is =
-    let has = has_shape env a inputs.first ready.0 ready.1 in
-    (refl, rw (has.matrix, has.form) is)
-printed env (a ∷ []) inputs (Err stops.Memory) line before after ready is = is
-printed env (a ∷ b ∷ names) inputs r line before after ready is = absurd ready.1
+-- ---- Statements that write
+
+writes : (known : List Known) (env : Held) (deed : Deed) (fits : Bool) (text : List ℕ) (r : Result (Unit {0}) Stop)
+    (before after : Option (List ℕ))
+    → is_refused known deed ≡ not fits → known_by known deed ≡ known ++ [] → text_by known deed ≡ text
+    → Shows env known → IsWritten r fits text before after → Acts known deed r env before after
+writes known env deed fits text (Ok done) before after refused by told shows is = (
+  refused ∙ ap not is.0,
+  subst (Shows env) (sym (by ∙ append-nil known)) shows,
+  subst (λ t. Adds before t after) (sym told) is.1,
+)
+writes known env deed fits text (Err stops.Refused) before after refused by told shows is = (refused ∙ ap not is.0, is.1)
+writes known env deed fits text (Err stops.WriteFault) before after refused by told shows is =
+    (refused ∙ ap not is.0, subst (λ t. AddsFront before t after) (sym told) is.1)
+writes known env deed fits text (Err stops.Memory) before after refused by told shows is = is
+
+-- a trace
+pub trace_acts : (env : Held) (line : ℕ) (names : Names) (r : Result (Unit {0}) Stop) (before after : Option (List ℕ)) → names.count ≡ 1
+    → IsWritten r (trace_fits (matrix_at env (name_bytes names.first))) (number_text (trace_of (matrix_at env (name_bytes names.first))) ++ 10 ∷ []) before after
+    → ActsOn (Does line verb.Trace (names_of names)) r env env before after
+trace_acts env line names r before after count is =
+    let a = name_bytes names.first in
+    subst (λ ns. ActsOn (Does line verb.Trace ns) r env env before after) (sym (one_name names count)) (λ known shows.
+    let m = matrix_named known a in
+    writes known env (Does line verb.Trace (a ∷ [])) (trace_fits m) (number_text (trace_of m) ++ 10 ∷ []) r before after refl refl refl shows
+    (subst (λ m. IsWritten r (trace_fits m) (number_text (trace_of m) ++ 10 ∷ []) before after) (held_is env known a shows) is))
+
+-- a count
+pub count_acts : (env : Held) (line : ℕ) (names : Names) (r : Result (Unit {0}) Stop) (before after : Option (List ℕ)) → names.count ≡ 1
+    → IsWritten r true (number_text (pos (length (cells_of (matrix_at env (name_bytes names.first))))) ++ 10 ∷ []) before after
+    → ActsOn (Does line verb.Count (names_of names)) r env env before after
+count_acts env line names r before after count is =
+    let a = name_bytes names.first in
+    subst (λ ns. ActsOn (Does line verb.Count ns) r env env before after) (sym (one_name names count)) (λ known shows.
+    let m = matrix_named known a in
+    writes known env (Does line verb.Count (a ∷ [])) true (number_text (pos (length (cells_of m))) ++ 10 ∷ []) r before after refl refl
+    (ap (λ form. number_text (pos (length (cells_listed form m))) ++ 10 ∷ []) (shows.general a)) shows
+    (subst (λ m. IsWritten r true (number_text (pos (length (cells_of m))) ++ 10 ∷ []) before after) (held_is env known a shows) is))
+
+-- the text of a matrix
+pub print_acts : (env : Held) (line : ℕ) (names : Names) (r : Result (Unit {0}) Stop) (before after : Option (List ℕ)) → names.count ≡ 1
+    → IsWritten r true (matrix_text General (matrix_at env (name_bytes names.first))) before after
+    → ActsOn (Does line verb.Print (names_of names)) r env env before after
+print_acts env line names r before after count is =
+    let a = name_bytes names.first in
+    subst (λ ns. ActsOn (Does line verb.Print ns) r env env before after) (sym (one_name names count)) (λ known shows.
+    let m = matrix_named known a in
+    writes known env (Does line verb.Print (a ∷ [])) true (matrix_text General m) r before after refl refl
+    (ap (λ form. matrix_text form m) (shows.general a)) shows
+    (subst (λ m. IsWritten r true (matrix_text General m) before after) (held_is env known a shows) is))
+
+-- ---- A statement that deletes
+
+pub delete_acts : (env later : Held) (line : ℕ) (names : Names) (done : Unit {0}) (before : Option (List ℕ)) → names.count ≡ 1
+    → Changes env (name_bytes names.first) None later
+    → ActsOn (Does line verb.Delete (names_of names)) (Ok done) env later before before
+delete_acts env later line names done before count is =
+    let a = name_bytes names.first in
+    subst (λ ns. ActsOn (Does line verb.Delete ns) (Ok done) env later before before) (sym (one_name names count)) (λ known shows.
+    (refl, shows_deleted env later known a shows is, Adds_nil before))

@@ -2,8 +2,8 @@ pub mod Pieces
 pub mod Short
 pub mod Statuses
 pub mod Named
-pub mod Turns
 pub mod Deeds
+pub mod Turns
 pub mod Order
 pub mod Trees
 pub mod Evaluation

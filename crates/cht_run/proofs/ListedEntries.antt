@@ -7,7 +7,7 @@ use Rattle.std.proofs.Math.Nat.{min-le_left, min-le_right, suc-mul}
 use Rattle.std.proofs.lemmas.Nat.{mul-le}
 use Rattle.std.proofs.lemmas.List.{get_or_past}
 use Rattle.std.proofs.lemmas.List.Elements.{All-nil, All-cons, All-head, All-tail}
-use Rattle.dense_def.specs.Matrix.{entry, made, tabulate, peak_of}
+use Rattle.dense_def.specs.Matrix.{completed, entry, made, tabulate, peak_of}
 use Rattle.dense_def.proofs.Entries.{length-tabulate, get_or-tabulate, entry_made, made_ext}
 use Rattle.mm_text.specs.declared.market.Cell.{Cell}
 use Rattle.mm_text.specs.declared.market.Entry.{Entry}
@@ -20,7 +20,6 @@ use Rattle.chunk_codec.specs.Spots.{side_of, stands_before, spots_rise, IsSpot}
 use Rattle.quad_matrix.specs.Spots.{spot_value, block_of_spots}
 use Rattle.quad_matrix.proofs.ForOthers.{peak-zeros}
 use Rattle.cht_script.specs.Reading.{IsGoodMarket, matrix_of_market}
-use Rattle.cht_run.specs.Held.{completed}
 use Rattle.cht_run.specs.Listed.{most_listed, IsListOf, spot_of, IsCounted, HasSmallValue}
 
 -- ---- The cells of a made matrix
@@ -76,9 +75,9 @@ market_matrix : (market : Market) → market.form ≡ General
 market_matrix market general = ap (λ form. matrix_listed form market.rows market.columns market.entries) general
 
 -- the entries of a good market are such cells
-market_from : (grid : ℕ) (market : Market) → IsGoodMarket grid market → AreFrom market.rows market.columns 1 1 (entry_cells market.entries)
-market_from grid market good =
-    subst (AreFrom market.rows market.columns 1 1) (sym (good.entries ∙ ap₂ cells_listed good.general (market_matrix market good.general)))
+market_from : (grid : ℕ) (market : Market) → IsGoodMarket grid market → market.form ≡ General → AreFrom market.rows market.columns 1 1 (entry_cells market.entries)
+market_from grid market good general =
+    subst (AreFrom market.rows market.columns 1 1) (sym (good.entries ∙ ap₂ cells_listed general (market_matrix market general)))
     (made_from market.rows market.columns (λ i j. value_at market.entries (i + 1) (j + 1)))
 
 -- ---- Entries counted from 1
@@ -89,8 +88,8 @@ entries_counted rows columns i j (e ∷ es) from =
     All-cons IsCounted e es (from.0.top, from.0.left) (entries_counted rows columns e.row (e.column + 1) es from.1)
 
 -- rows and columns of a good market count from 1
-pub market_counted : (grid : ℕ) (market : Market) → IsGoodMarket grid market → All IsCounted market.entries
-market_counted grid market good = entries_counted market.rows market.columns 1 1 market.entries (market_from grid market good)
+pub market_counted : (grid : ℕ) (market : Market) → IsGoodMarket grid market → market.form ≡ General → All IsCounted market.entries
+market_counted grid market good general = entries_counted market.rows market.columns 1 1 market.entries (market_from grid market good general)
 
 -- an entry that lies within the matrix names no place outside
 names_inside : (e : Entry) (a b : ℕ) → (e.row < a) ⊎ (e.column < b) → names a b e ≡ false
@@ -234,21 +233,21 @@ length_cells [] = refl
 length_cells (e ∷ es) = ap suc (length_cells es)
 
 -- a good market has fewer than 2 ^ 32 entries
-market_few : (side : ℕ) (market : Market) → IsGoodMarket (most_listed side) market → length market.entries < 2 ^ 32
-market_few side market good =
+market_few : (side : ℕ) (market : Market) → IsGoodMarket (most_listed side) market → market.form ≡ General → length market.entries < 2 ^ 32
+market_few side market good general =
     let f : ℕ → ℕ → ℤ = λ i j. value_at market.entries (i + 1) (j + 1) in
-    let same = good.entries ∙ ap₂ cells_listed good.general (market_matrix market good.general) in
+    let same = good.entries ∙ ap₂ cells_listed general (market_matrix market general) in
     let places = mul-le market.rows market.columns 4096 4096 (omega (arith, good.rows.1, min-le_left 4096 side)) (omega (arith, good.columns.1, min-le_left 4096 side)) in
     omega (arith, length_cells market.entries, ap length same, rows_few market.columns market.rows 1 f, places)
 
 -- the entries of a good market, moved, are a sound list of its matrix
-pub market_listed : (b h : ℕ) (market : Market) (spots : List Spot) → IsGoodMarket (most_listed (side_of b h)) market → 1 ≤ b → b ≤ 64 → h ≤ 16 → (length market.entries ≡ 0 → ⊥)
+pub market_listed : (b h : ℕ) (market : Market) (spots : List Spot) → IsGoodMarket (most_listed (side_of b h)) market → market.form ≡ General → 1 ≤ b → b ≤ 64 → h ≤ 16 → (length market.entries ≡ 0 → ⊥)
     → spots ≡ map spot_of market.entries → All HasSmallValue spots
     → IsListOf b h (matrix_of_market market) (Some (record { leaf = b; height = h; symmetric = false; list = spots }))
-market_listed b h market spots good leaf_low leaf_high low some moved small =
+market_listed b h market spots good general leaf_low leaf_high low some moved small =
     let side = side_of b h in
     let es = market.entries in
-    let from = market_from (most_listed side) market good in
+    let from = market_from (most_listed side) market good general in
     let all : All HasSmallValue (map spot_of es) = subst (All HasSmallValue) moved small in
     subst (λ (xs : List Spot). IsListOf b h (matrix_of_market market) (Some (record { leaf = b; height = h; symmetric = false; list = xs }))) (sym moved) (
       record {
@@ -260,11 +259,11 @@ market_listed b h market spots good leaf_low leaf_high low some moved small =
           leaf_high = leaf_high;
           low = low;
           some = omega (arith, length_moved es);
-          few = omega (arith, length_moved es, market_few side market good);
+          few = omega (arith, length_moved es, market_few side market good general);
           rising = moved_rise market.rows market.columns 1 1 es from;
           spots = moved_spots side market.rows market.columns 1 1 es (listed_side side market.rows good.rows.1) (listed_side side market.columns good.columns.1) from all;
           upper = λ never. absurd (true≢false (sym never));
         };
       },
-      block_of_moved side market.rows market.columns es from ∙ ap (completed side) (sym (market_matrix market good.general)),
+      block_of_moved side market.rows market.columns es from ∙ ap (completed side) (sym (market_matrix market general)),
     )

@@ -4,7 +4,7 @@ use Rattle.std.specs.Prelude.{nat_lt}
 use Rattle.std.proofs.Math.Pow.{pow_mono}
 use Rattle.std.proofs.lemmas.Nat.{mul-le}
 use Rattle.std.proofs.lemmas.Bool.{cases_lt, lt-ltb, le-ltb, true≢false}
-use Rattle.dense_def.specs.Matrix.{Matrix, height, entry, made, tabulate, joined, zeros}
+use Rattle.dense_def.specs.Matrix.{completed, Matrix, height, entry, made, tabulate, joined, zeros}
 use Rattle.dense_def.proofs.Entries.{length-tabulate, tabulate_ext, entry_made, IsMatrix-made}
 use Rattle.dense_def.proofs.RowByRow.{tabulate_more}
 use Rattle.leaf_blocks.specs.Block.{IsBlock}
@@ -18,8 +18,7 @@ use Rattle.quad_matrix.proofs.ForOthers.{root_of_leaf, root_of_node}
 use Rattle.quad_matrix.proofs.ForOthers.{quadrants_canonical, block_of_quadrants}
 use Rattle.mm_text.specs.declared.market.Cell.{Cell}
 use Rattle.mm_text.specs.Cells.{is_zero, cells_of_row, cells_of_rows}
-use Rattle.cht_run.specs.Held.{completed}
-use Rattle.cht_run.proofs.Completed.{entry_right}
+use Rattle.dense_def.proofs.Completed.{entry_right}
 use Rattle.cht_run.specs.Parts.{content_of}
 use Rattle.cht_run.specs.Rows.{row_cells, halves_of}
 

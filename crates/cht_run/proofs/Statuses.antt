@@ -4,17 +4,20 @@ use Rattle.std.specs.Prelude.{◌⊎◌, option_map, map, Err}
 use Rattle.std.proofs.lemmas.Bool.{cases_lt, le-leb, lt-leb}
 use Rattle.std.proofs.lemmas.List.{take_all, length-take, length-drop, nil_from_length}
 use Rattle.cht_io.specs.Bytes.{Adds, AddsFront}
-use Rattle.cht_script.specs.Verdict.{is_runnable}
-use Rattle.cht_script.specs.Meaning.{told_by, told_of}
-use Rattle.cht_script.specs.declared.script.Script.{Script}
-use Rattle.cht_script.specs.Reading.{deed_of, IsScriptOf, IsLeastHeight}
+use Rattle.mm_text.specs.Faults.{or_else}
+use Rattle.cht_script.specs.declared.checked.Checked.{Checked}
+use Rattle.cht_script.specs.declared.script.Fault.{Fault}
+use Rattle.cht_script.specs.Items.{fault_at, heading_of}
+use Rattle.cht_script.specs.Verdict.{most_bytes, fault_with, verdict}
+use Rattle.cht_script.specs.Meaning.{told_by, told_of, deeds_of}
+use Rattle.cht_script.specs.Reading.{IsLeastHeight}
+use Rattle.cht_script.specs.Checking.{IsChecked, deed_in}
+use Rattle.cht_script.specs.NotRun.{not_run_in, refused_text}
 use Rattle.cht_run.specs.declared.reading.ReadStop.{ReadStop}
 use Rattle.cht_run.specs.declared.reading.ReadStop.TheVariants as stops
-use Rattle.cht_run.specs.declared.status.Fault.{Fault}
 use Rattle.cht_run.specs.declared.status.Status.{Status}
 use Rattle.cht_run.specs.declared.status.Status.TheVariants.{Done, Usage, Refused, ReadFault, WriteFault, Memory}
-use Rattle.cht_script.specs.Verdict.{most_bytes}
-use Rattle.cht_run.specs.Verdict.{told_fault, meaning, refusal, too_great}
+use Rattle.cht_run.specs.Verdict.{meaning, refusal, too_great}
 use Rattle.cht_run.specs.Answers.{Answers, WasRead, ReadUpTo, IsSilent, status_by, status_for}
 use Rattle.cht_run.specs.Judged.{Judges}
 use Rattle.cht_run.specs.Running.{Ran}
@@ -23,21 +26,22 @@ use Rattle.cht_run.specs.Reading.{Stopped}
 -- ---- The text that was read, and the whole input
 
 -- a text that is too long
-long_verdict : (text : List ℕ) → 2 ^ 26 < length text → told_fault text ≡ Some (record { line = 0; code = 1 })
-long_verdict text long = ap (λ (b : Bool). cond b (cond (is_runnable text) None (Some (record { line = 0; code = 20 }))) (Some (record { line = 0; code = 1 }))) (lt-leb (length text) (2 ^ 26) long)
+long_verdict : (text : List ℕ) → 2 ^ 26 < length text → refused_text text ≡ Some (record { line = 0; code = 1 })
+long_verdict text long =
+    ap (λ (b : Bool). or_else (cond b (fault_with (heading_of text)) (Some (fault_at 0 1))) (not_run_in (deeds_of text))) (lt-leb (length text) (2 ^ 26) long)
 
 short_input : (input : List ℕ) → length input ≤ 2 ^ 26 → take (2 ^ 26 + 1) input ≡ input
 short_input input short = take_all (2 ^ 26 + 1) input (omega arith)
 
-verdict_read : (input : List ℕ) → told_fault (take (2 ^ 26 + 1) input) ≡ told_fault input
+verdict_read : (input : List ℕ) → refused_text (take (2 ^ 26 + 1) input) ≡ refused_text input
 verdict_read input =
     elim (cases_lt (2 ^ 26) (length input)) [
-      | inr short ↦ ap told_fault (short_input input short)
+      | inr short ↦ ap refused_text (short_input input short)
       | inl long ↦ long_verdict (take (2 ^ 26 + 1) input) (omega (arith, length-take (2 ^ 26 + 1) input)) ∙ sym (long_verdict input long)
     ]
 
 -- an input without a fault is not too long
-good_is_short : (input : List ℕ) → told_fault input ≡ None → length input ≤ 2 ^ 26
+good_is_short : (input : List ℕ) → refused_text input ≡ None → length input ≤ 2 ^ 26
 good_is_short input good =
     elim (cases_lt (2 ^ 26) (length input)) [
       | inr short ↦ short
@@ -49,13 +53,13 @@ nothing_left input short = nil_from_length (drop (2 ^ 26 + 1) input) (omega (ari
 
 -- what is known of an input whose text has no fault
 record IsGood (input text : List ℕ) (left : Option (List ℕ)) : Type 0 where
-  good : told_fault input ≡ None
+  good : refused_text input ≡ None
   all : left ≡ Some []
   same : text ≡ input
 
-is_good : (input text : List ℕ) (left : Option (List ℕ)) → text ≡ take (2 ^ 26 + 1) input → WasRead input left → told_fault text ≡ None → IsGood input text left
+is_good : (input text : List ℕ) (left : Option (List ℕ)) → text ≡ take (2 ^ 26 + 1) input → WasRead input left → refused_text text ≡ None → IsGood input text left
 is_good input text left e read good =
-    let g : told_fault input ≡ None = sym (verdict_read input) ∙ ap told_fault (sym e) ∙ good in
+    let g : refused_text input ≡ None = sym (verdict_read input) ∙ ap refused_text (sym e) ∙ good in
     let short = good_is_short input g in
     record { good = g; all = read ∙ ap (λ (l : List ℕ). Some l) (nothing_left input short); same = e ∙ short_input input short }
 
@@ -70,7 +74,7 @@ judged_input Done input text left before after read h =
 judged_input Usage input text left before after read h = absurd h
 judged_input (Refused fault) input text left before after read h =
     elim h [
-      | inl fixed ↦ inl (read.1, sym (verdict_read input) ∙ ap told_fault (sym read.0) ∙ fixed.0, fixed.1)
+      | inl fixed ↦ inl (read.1, sym (verdict_read input) ∙ ap refused_text (sym read.0) ∙ fixed.0, fixed.1)
       | inr at_run ↦
           let g = is_good input text left read.0 read.1 at_run.0 in
           inr (
@@ -108,28 +112,10 @@ few_levels grid b h some few levels =
       | inr low ↦ low
     ]
 
-abbrev not_built : Option Fault
-not_built = Some (record { line = 0; code = 20 })
-
-abbrev too_long : Option Fault
-too_long = Some (record { line = 0; code = 1 })
-
-script_verdict : (text : List ℕ) → is_runnable text ≡ true → length text ≤ 2 ^ 26 → told_fault text ≡ None
-script_verdict text runs short =
-    ap (λ (b : Bool). cond b (cond (is_runnable text) None not_built) too_long) (le-leb (length text) (2 ^ 26) short)
-    ∙ ap (λ (b : Bool). cond b None not_built) runs
-
--- a text that is no script that is run
-pub not_runnable : (text : List ℕ) → is_runnable text ≡ false → length text ≤ 2 ^ 26
-    → told_fault text ≡ Some (record { line = 0; code = 20 })
-not_runnable text never short =
-    ap (λ (b : Bool). cond b (cond (is_runnable text) None not_built) too_long) (le-leb (length text) (2 ^ 26) short)
-    ∙ ap (λ (b : Bool). cond b None not_built) never
-
 too_great_is : (fault : Fault) → fault.code ≡ 19 → too_great fault.line ≡ fault
 too_great_is fault e = rw (← e) refl
 
-judged_told : (status : Status) (text : List ℕ) (before after : Option (List ℕ)) → told_fault text ≡ None
+judged_told : (status : Status) (text : List ℕ) (before after : Option (List ℕ)) → refused_text text ≡ None
     → Ran status (told_of text) before after → Judges status text before after
 judged_told Done text before after good ran = (good, ap (option_map too_great) ran.0, ran.1)
 judged_told Usage text before after good ran = absurd ran
@@ -139,15 +125,25 @@ judged_told ReadFault text before after good ran = absurd ran
 judged_told WriteFault text before after good ran = (good, ran)
 judged_told Memory text before after good ran = inr (good, ran)
 
-pub judged_run : (status : Status) (text : List ℕ) (script : Script) (before after : Option (List ℕ)) → IsScriptOf text script
-    → length text ≤ 2 ^ 26 → Ran status (told_by [] (map deed_of script.statements)) before after → Judges status text before after
-judged_run status text script before after is short ran =
-    judged_told status text before after (script_verdict text is.runnable short)
+-- what is told before the run of a text without a fault
+told_before : (text : List ℕ) (checked : Checked) → IsChecked text checked → refused_text text ≡ not_run_in (map deed_in checked.steps)
+told_before text checked is = ap (λ v. or_else v (not_run_in (deeds_of text))) is.clean ∙ ap not_run_in (sym is.deeds)
+
+pub judged_run : (status : Status) (text : List ℕ) (checked : Checked) (before after : Option (List ℕ)) → IsChecked text checked
+    → not_run_in (map deed_in checked.steps) ≡ None → Ran status (told_by [] (map deed_in checked.steps)) before after
+    → Judges status text before after
+judged_run status text checked before after is run ran =
+    judged_told status text before after (told_before text checked is ∙ run)
     (subst (λ deeds. Ran status (told_by [] deeds) before after) is.deeds ran)
 
--- a text that is too long
-pub too_long_text : (text : List ℕ) → 2 ^ 26 < length text → told_fault text ≡ Some (record { line = 0; code = 1 })
-too_long_text text long = long_verdict text long
+-- a statement that is not run
+pub judged_not_run : (text : List ℕ) (checked : Checked) (fault : Fault) (before : Option (List ℕ)) → IsChecked text checked
+    → not_run_in (map deed_in checked.steps) ≡ Some fault → Judges (Refused fault) text before before
+judged_not_run text checked fault before is at = inl (told_before text checked is ∙ at, refl)
+
+-- a fault
+pub judged_fault : (text : List ℕ) (fault : Fault) (before : Option (List ℕ)) → verdict text ≡ Some fault → Judges (Refused fault) text before before
+judged_fault text fault before is = inl (ap (λ v. or_else v (not_run_in (deeds_of text))) is, refl)
 
 -- ---- Where no device failed
 

@@ -2,11 +2,12 @@
 use Rattle.std.specs.Prelude.{◌≡◌, ◌≢◌, ◌⊎◌, ℕ, ◌+◌, ◌≤◌, Bool, false, List, [], ◌∷◌, drop, codes, Option, None, Some}
 use Rattle.std.specs.Str.{bytes_eq}
 use Rattle.cht_io.specs.Bytes.{Adds, AddsFront}
-use Rattle.cht_run.specs.declared.status.Fault.{Fault}
 use Rattle.cht_run.specs.declared.status.Status.{Status}
 use Rattle.cht_run.specs.declared.status.Status.TheVariants.{Done, Usage, Refused, ReadFault, WriteFault, Memory}
+use Rattle.cht_script.specs.declared.script.Fault.{Fault}
 use Rattle.cht_script.specs.Verdict.{most_bytes}
-use Rattle.cht_run.specs.Verdict.{told_fault, meaning, refusal}
+use Rattle.cht_script.specs.NotRun.{refused_text}
+use Rattle.cht_run.specs.Verdict.{meaning, refusal}
 
 -- whether the words are the one command that there is
 abbrev pub are_plain : List (List ℕ) → Bool
@@ -23,7 +24,7 @@ ReadUpTo most input left = (n : ℕ) × (n ≤ most) × (left ≡ Some (drop n i
 
 -- the input was read to its end and is run, and what was written is so
 abbrev pub IsRun : List ℕ → Option (List ℕ) → Type 0 → Type 0
-IsRun input left written = (left ≡ Some []) × (told_fault input ≡ None) × written
+IsRun input left written = (left ≡ Some []) × (refused_text input ≡ None) × written
 
 -- a front of what the input means was written, where it was read to its end and is run
 abbrev pub WritesFront : List ℕ → Option (List ℕ) → Option (List ℕ) → Option (List ℕ) → Type 0
@@ -33,7 +34,7 @@ WritesFront input left before after = IsRun input left (AddsFront before (meanin
 -- written
 abbrev pub IsRefused : Fault → List ℕ → Option (List ℕ) → Option (List ℕ) → Option (List ℕ) → Type 0
 IsRefused fault input left before after =
-    (WasRead input left × (told_fault input ≡ Some fault) × (after ≡ before))
+    (WasRead input left × (refused_text input ≡ Some fault) × (after ≡ before))
     ⊎ ((refusal input ≡ Some fault) × IsRun input left (Adds before (meaning input) after))
 
 -- What a status says: of an input, what was left of it, and what the sink had taken before and after.
@@ -64,4 +65,4 @@ status_by None None = Done
 
 -- the answer for an input where neither memory nor a device fails
 abbrev pub status_for : List ℕ → Status
-status_for input = status_by (told_fault input) (refusal input)
+status_for input = status_by (refused_text input) (refusal input)

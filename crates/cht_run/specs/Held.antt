@@ -1,61 +1,57 @@
 -- What a run holds: the names that are bound, with their matrices.
-use Rattle.std.specs.Prelude.{◌≡◌, ℕ, ◌+◌, ◌*◌, Bool, true, false, nat_le, List, [], ◌∷◌, ◌++◌, slice_get, Option, None, Some, ℤ}
-use Rattle.dense_def.specs.Matrix.{Matrix, made, entry, height, plus, trace_of, peak_of}
-use Rattle.mm_text.specs.declared.market.Form.{Form}
-use Rattle.mm_text.specs.declared.market.Form.TheVariants.{General}
-use Rattle.cht_script.specs.Verdict.{NamedShape}
-use Rattle.cht_script.specs.Meaning.{Known, matrix_found, form_found, limit}
+use Rattle.std.specs.Prelude.{◌≡◌, ℕ, ◌*◌, Bool, true, false, nat_le, if◌then◌else◌, List, Option, None, Some, option_map, Result, Ok, Err, ℤ}
+use Rattle.std.specs.Str.{bytes_eq}
+use Rattle.dense_def.specs.Matrix.{Matrix, height, zeros, trace_of, peak_of}
+use Rattle.cht_script.specs.declared.checked.Shape.{Shape}
+use Rattle.cht_script.specs.Statements.{general}
+use Rattle.cht_script.specs.Meaning.{limit}
+use Rattle.chunk_codec.specs.Spots.{side_of}
+use Rattle.cht_run.specs.declared.held.Held.{Held}
+use Rattle.cht_run.specs.declared.stop.Stop.{Stop}
+use Rattle.cht_run.specs.declared.stop.Stop.TheVariants as stops
+use Rattle.cht_run.specs.HeldMatrices.{matrix_in, look, AreHeld}
 
--- the names that are bound, where all matrices are completed by zeros to squares of one side
-pub record Environment : Type 0 where
-  pub side : ℕ
-  pub known : List Known
+-- the side of the squares to which all matrices are completed by zeros
+abbrev pub side_in : Held → ℕ
+side_in held = side_of held.leaf held.height
 
--- one more name, with a general matrix
-abbrev pub with_matrix : Environment → List ℕ → Matrix → Environment
-with_matrix env name m =
-    record env { known = env.known ++ record { name = name; form = General; matrix = m } ∷ [] }
+-- the matrix of a name, if it is bound
+abbrev pub found_in : Held → List ℕ → Option Matrix
+found_in held name = option_map (matrix_in held.leaf held.height) (look name held.named)
 
--- the matrix that was bound with number `slot`, counted from 0; one without rows and columns past the last
-abbrev pub matrix_at : Environment → ℕ → Matrix
-matrix_at env slot = matrix_found (slice_get env.known slot)
+-- what is kept of all names
+abbrev pub IsWell : Held → Type 0
+IsWell held = AreHeld held.leaf held.height held.named
 
--- a matrix completed by zeros to a square of that side
-abbrev pub completed : ℕ → Matrix → Matrix
-completed side m = made side side (λ i j. entry m i j)
+-- the matrix of what was found; one without rows and columns where nothing was
+abbrev pub matrix_or : Option Matrix → Matrix
+matrix_or None = zeros 0 0
+matrix_or (Some m) = m
 
--- a name with the shape of its matrix
-abbrev pub shape_of_known : Known → NamedShape
-shape_of_known known =
-    record {
-      name = known.name;
-      shape = record { rows = height known.matrix; columns = known.matrix.columns; form = known.form };
-    }
+-- the matrix of a name; one without rows and columns where it is not bound
+abbrev pub matrix_at : Held → List ℕ → Matrix
+matrix_at held name = matrix_or (found_in held name)
 
--- whether the peaks of two matrices together are at most the limit
-abbrev pub sum_fits : Matrix → Matrix → Bool
-sum_fits a b = nat_le (peak_of a + peak_of b) limit
+-- its shape
+abbrev pub shape_at : Held → List ℕ → Shape
+shape_at held name = general (height (matrix_at held name)) (matrix_at held name).columns
+
+-- one name has this matrix from now on, or none; all others have what they had
+pub record Changes (held : Held) (name : List ℕ) (put : Option Matrix) (later : Held) : Type 0 where
+  pub found : (other : List ℕ) → found_in later other ≡ (if bytes_eq name other then put else found_in held other)
+  pub side : side_in later ≡ side_in held
+  pub well : IsWell later
+
+-- A name was bound to a matrix, or the test of its size failed. Where memory ran out nothing is said.
+abbrev pub IsBound : Result (Unit {0}) Stop → Bool → Held → List ℕ → Matrix → Held → Type 0
+IsBound (Ok done) fits held name m later = (fits ≡ true) × Changes held name (Some m) later
+IsBound (Err stops.Refused) fits held name m later = fits ≡ false
+IsBound (Err stops.WriteFault) fits held name m later = ⊥
+IsBound (Err stops.Memory) fits held name m later = Unit {0}
 
 -- whether the number of rows of a matrix times its peak is at most the limit
 abbrev pub trace_fits : Matrix → Bool
 trace_fits a = nat_le (height a * peak_of a) limit
-
--- the form that was bound with number `slot`; general past the last
-abbrev pub form_at : Environment → ℕ → Form
-form_at env slot = form_found (slice_get env.known slot)
-
--- one more name, with the sum of two bindings in the form of the first
-abbrev pub with_sum : Environment → List ℕ → ℕ → ℕ → Environment
-with_sum env name a b =
-    record env {
-      known = env.known ++ record { name = name; form = form_at env a; matrix = plus (matrix_at env a) (matrix_at env b) } ∷ [];
-    }
-
--- a name was bound to the sum of two bindings, or the sum does not fit and nothing changed
-abbrev pub IsBoundSum : Bool → Environment → List ℕ → ℕ → ℕ → Environment → Type 0
-IsBoundSum true env name a b later =
-    (sum_fits (matrix_at env a) (matrix_at env b) ≡ true) × (later ≡ with_sum env name a b)
-IsBoundSum false env name a b later = (sum_fits (matrix_at env a) (matrix_at env b) ≡ false) × (later ≡ env)
 
 -- the trace of a matrix, or none where it does not fit
 abbrev pub IsTraceOf : Matrix → Option ℤ → Type 0

@@ -1,12 +1,11 @@
 -- The entries of a market as a list for a quadtree.
 use Rattle.std.specs.Prelude.{◌≡◌, ℕ, ◌-◌, ◌^◌, ◌≤◌, min, false, Option, None, Some, pos, ◌<ℤ◌, unsigned_abs}
-use Rattle.dense_def.specs.Matrix.{Matrix, peak_of}
+use Rattle.dense_def.specs.Matrix.{Matrix, peak_of, completed}
 use Rattle.mm_text.specs.declared.market.Entry.{Entry}
 use Rattle.chunk_codec.specs.declared.plain.Spot.{Spot}
 use Rattle.quad_matrix.specs.declared.chunk.Entries.{Entries}
 use Rattle.chunk_codec.specs.Spots.{side_of}
 use Rattle.quad_matrix.specs.Spots.{block_of_spots, AreSoundEntries}
-use Rattle.cht_run.specs.Held.{completed}
 
 -- the entries of a matrix as a list, or none where all its numbers are 0
 abbrev pub IsListOf : ℕ → ℕ → Matrix → Option Entries → Type 0

@@ -3,14 +3,33 @@ use Rattle.std.specs.Prelude.{◌⊎◌, ℕ, ◌==◌, if◌then◌else◌, Lis
 use Rattle.cht_ids.specs.Numeral.{number_text}
 use Rattle.cht_io.specs.Bytes.{Adds, AddsFront}
 use Rattle.cht_io.specs.Faults.{Rose}
-use Rattle.cht_run.specs.declared.status.Fault.{Fault}
+use Rattle.cht_script.specs.declared.script.Fault.{Fault}
 use Rattle.cht_run.specs.declared.status.Status.{Status}
 use Rattle.cht_run.specs.declared.status.Status.TheVariants.{Done, Usage, Refused, ReadFault, WriteFault, Memory}
 
 -- the name of a fault's code
 abbrev pub fault_name : ℕ → List ℕ
 fault_name code =
-    if code == 1 then codes "TooLong" else if code == 19 then codes "Magnitude" else codes "NotBuilt"
+    if code == 1 then codes "TooLong"
+    else if code == 2 then codes "NotText"
+    else if code == 3 then codes "Grid"
+    else if code == 4 then codes "Statement"
+    else if code == 5 then codes "Number"
+    else if code == 6 then codes "Name"
+    else if code == 7 then codes "Banner"
+    else if code == 8 then codes "Sizes"
+    else if code == 9 then codes "Entry"
+    else if code == 10 then codes "Range"
+    else if code == 11 then codes "Repeated"
+    else if code == 12 then codes "Upper"
+    else if code == 13 then codes "CutShort"
+    else if code == 14 then codes "Unknown"
+    else if code == 15 then codes "Deleted"
+    else if code == 16 then codes "Taken"
+    else if code == 17 then codes "Shape"
+    else if code == 18 then codes "Form"
+    else if code == 19 then codes "Magnitude"
+    else codes "NotBuilt"
 
 -- where a fault is, and which
 abbrev pub place_note : Fault → List ℕ

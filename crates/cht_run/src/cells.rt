@@ -1,11 +1,10 @@
 ghost use Rattle.std.specs.Prelude.{◌≡◌, ◌+◌, ◌^◌, ◌<◌, ◌≤◌, [], ◌∷◌, ◌++◌, IfOk, OnOk};
-ghost use Rattle.dense_def.specs.Matrix.{made, entry, height};
+ghost use Rattle.dense_def.specs.Matrix.{made, entry, height, completed};
 ghost use Rattle.leaf_blocks.specs.Block.{IsBlock};
 ghost use Rattle.task_types.specs.Tree.{child};
 ghost use Rattle.mm_text.specs.Cells.{cells_of, cells_of_row};
 ghost use Rattle.chunk_codec.specs.Spots.{side_of};
 ghost use Rattle.quad_matrix.specs.Blocks.{block_of, IsCanonical};
-ghost use Rattle.cht_run.specs.Held.{completed};
 ghost use Rattle.cht_run.specs.Rows.{row_cells, halves_of};
 
 use crate::tree::Plain;

@@ -1,51 +1,64 @@
-ghost use Rattle.std.specs.Prelude.{◌≡◌, ◌≤◌, false, [], ◌∷◌, IfOk};
+ghost use Rattle.std.specs.Prelude.{◌≡◌, ◌≤◌, true, false, [], ◌∷◌, IfOk};
 ghost use Rattle.dense_def.specs.Matrix.{peak_of};
 ghost use Rattle.chunk_codec.specs.Spots.{side_of};
 ghost use Rattle.quad_matrix.specs.Spots.{block_of_spots, AreSoundEntries};
 ghost use Rattle.quad_matrix.specs.Blocks.{block_of, number_of, canonical, IsCanonical};
 ghost use Rattle.quad_matrix.specs.Goals.{goal_at, FitsAt};
-ghost use Rattle.cht_script.specs.Reading.{name_bytes, IsGoodMarket, matrix_of_market};
+ghost use Rattle.mm_text.specs.declared.market.Form.TheVariants.{General};
+ghost use Rattle.cht_script.specs.Statements.{shapes_fit};
+ghost use Rattle.cht_script.specs.Reading.{IsGoodMarket, matrix_of_market};
 ghost use Rattle.cht_run.specs.Numbers.{number_in};
 ghost use Rattle.cht_run.specs.Held.{IsTraceOf};
 ghost use Rattle.cht_run.specs.Listed.{most_listed};
-ghost use Rattle.cht_run.specs.HeldMatrices.{matrix_in, IsTreeOf, IsHeld, IsHeldAs, IsSumOf};
+ghost use Rattle.cht_run.specs.HeldMatrices.{matrix_in, shape_held, IsTreeOf, IsHeld, IsHeldAs, verb_of, IsCombined};
 
 use crate::library::MatLib;
 use crate::listed::entries_of;
+use crate::operation::Operation;
 use crate::recursion::evaluate;
 use crate::tree::Plain;
-use cht_ids::{Memory, fits_product, fits_sum};
-use cht_script::Name;
+use cht_ids::{Memory, fits_product};
 use mm_text::Market;
 use quad_matrix::{Entries, MatChunk, MatKind, What};
 use std::alloc::Global;
 use task_types::Shared;
 
-/// A name with its matrix: how many rows and columns it has, and the quadtree of the matrix completed by zeros.
+/// A matrix: how many rows and columns it has, and the quadtree of the matrix completed by zeros.
 #[derive(Drop)]
 pub(crate) struct HeldMatrix {
-    pub(crate) name: Name,
     pub(crate) rows: u32,
     pub(crate) columns: u32,
     pub(crate) tree: Plain<MatChunk>,
 }
 
-/// IsHeldAs a name to a matrix that a script lists. The trees have leaves of side `leaf` and `height` levels above them.
+impl HeldMatrix {
+    /// The same matrix once more. It shares the tree.
+    pub(crate) fn again(&self) -> Result<HeldMatrix, Memory>
+        ensures { IfOk result (λ one. one ≡ self.now) }
+    {
+        Ok(HeldMatrix {
+            rows: self.rows,
+            columns: self.columns,
+            tree: self.tree.again()?,
+        })
+    }
+}
+
+/// The matrix that a script lists. The trees have leaves of side `leaf` and `height` levels above them.
 pub(crate) fn listed(
     alloc: Global,
     leaf: u32,
     height: u32,
-    name: Name,
     market: &Market,
 ) -> Result<HeldMatrix, Memory>
     requires good { IsGoodMarket (most_listed (side_of leaf height)) market.now }
+    requires general { market.now.form ≡ General }
     requires leaf { 1 ≤ leaf }
     requires small { leaf ≤ 64 }
     requires height { height ≤ 16 }
-    ensures { IfOk result (IsHeldAs leaf height (name_bytes name) (matrix_of_market market.now)) }
+    ensures { IfOk result (IsHeldAs leaf height (matrix_of_market market.now)) }
 {
     Ok(HeldMatrix {
-        name,
         rows: market.rows,
         columns: market.columns,
         tree: tree_of(alloc, leaf, height, market)?,
@@ -60,6 +73,7 @@ fn tree_of(
     market: &Market,
 ) -> Result<Plain<MatChunk>, Memory>
     requires good { IsGoodMarket (most_listed (side_of leaf height)) market.now }
+    requires general { market.now.form ≡ General }
     requires leaf { 1 ≤ leaf }
     requires small { leaf ≤ 64 }
     requires height { height ≤ 16 }
@@ -96,35 +110,36 @@ fn assigned(
     goal(alloc, leaf, kind, &[list])
 }
 
-/// IsHeldAs a name to the sum of two matrices of one shape; `None` where the sum of their peaks exceeds the limit.
-pub(crate) fn sum(
+/// One matrix of two whose shapes fit; `None` where a number of it might exceed the limit, by their peaks.
+pub(crate) fn combined(
     alloc: Global,
     leaf: u32,
     height: u32,
-    name: Name,
+    operation: Operation,
     a: &HeldMatrix,
     b: &HeldMatrix,
 ) -> Result<Option<HeldMatrix>, Memory>
     requires first { IsHeld leaf height a.now }
     requires second { IsHeld leaf height b.now }
-    requires rows { a.now.rows ≡ b.now.rows }
-    requires columns { a.now.columns ≡ b.now.columns }
+    requires shapes { shapes_fit (verb_of operation) (shape_held a.now) (shape_held b.now) ≡ true }
     requires small { leaf ≤ 64 }
     requires height { height ≤ 16 }
-    ensures { IfOk result (IsSumOf leaf height (name_bytes name) a.now b.now) }
+    ensures { IfOk result (IsCombined leaf height operation a.now b.now) }
 {
-    if !fits_sum(peak(leaf, height, &a.tree), peak(leaf, height, &b.tree)) {
+    let first = peak(leaf, height, &a.tree);
+    let second = peak(leaf, height, &b.tree);
+    if !operation.fits(a.rows, a.columns, first, second) {
         return Ok(None);
     }
     let kind = MatKind {
-        what: What::Add,
+        what: operation.what(),
         height,
     };
     let tree = goal(alloc, leaf, kind, &[a.tree.again()?, b.tree.again()?])?;
+    let (rows, columns) = operation.sizes(a, b);
     Ok(Some(HeldMatrix {
-        name,
-        rows: a.rows,
-        columns: a.columns,
+        rows,
+        columns,
         tree,
     }))
 }

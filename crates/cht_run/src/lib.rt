@@ -8,13 +8,16 @@ mod held_matrix;
 mod library;
 mod listed;
 mod notes;
+mod operation;
 mod plain;
 mod reading;
 mod recursion;
 mod run;
 mod status;
+mod stop;
 mod tree;
 
+pub use cht_script::Fault;
 pub use command::cht;
 pub use plain::plain_call;
-pub use status::{Fault, Status};
+pub use status::Status;

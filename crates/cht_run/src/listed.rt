@@ -1,5 +1,6 @@
 ghost use Rattle.std.specs.Prelude.{◌≡◌, ◌≤◌, map, All, IfOk};
 ghost use Rattle.chunk_codec.specs.Spots.{side_of};
+ghost use Rattle.mm_text.specs.declared.market.Form.TheVariants.{General};
 ghost use Rattle.cht_script.specs.Reading.{IsGoodMarket, matrix_of_market};
 ghost use Rattle.cht_run.specs.Listed.{most_listed, IsListOf, spot_of, IsCounted, HasSmallValue};
 
@@ -18,6 +19,7 @@ pub(crate) fn entries_of(
     market: &Market,
 ) -> Result<Option<Entries>, Memory>
     requires good { IsGoodMarket (most_listed (side_of leaf height)) market.now }
+    requires general { market.now.form ≡ General }
     requires leaf { 1 ≤ leaf }
     requires small { leaf ≤ 64 }
     requires height { height ≤ 16 }

@@ -2,9 +2,10 @@ ghost use Rattle.std.specs.Prelude.{◌≡◌, ◌≤◌, length, pos};
 ghost use Rattle.cht_ids.specs.Numeral.{number_text};
 ghost use Rattle.cht_run.specs.Notes.{Notes, note_of, place_note, fault_name};
 
-use crate::status::{Fault, Status};
+use crate::status::Status;
 use cht_ids::{Short, write_number};
 use cht_io::{Sink, write_all};
+use cht_script::Fault;
 
 /// Writes the line of a status, if it has one. A fault of the notes changes nothing else.
 pub(crate) fn tell<N: Sink>(notes: &mut N, status: Status)
@@ -72,6 +73,23 @@ fn name_of(code: u32) -> &'static [u8]
 {
     match code {
         1 => b"TooLong",
+        2 => b"NotText",
+        3 => b"Grid",
+        4 => b"Statement",
+        5 => b"Number",
+        6 => b"Name",
+        7 => b"Banner",
+        8 => b"Sizes",
+        9 => b"Entry",
+        10 => b"Range",
+        11 => b"Repeated",
+        12 => b"Upper",
+        13 => b"CutShort",
+        14 => b"Unknown",
+        15 => b"Deleted",
+        16 => b"Taken",
+        17 => b"Shape",
+        18 => b"Form",
         19 => b"Magnitude",
         _ => b"NotBuilt",
     }

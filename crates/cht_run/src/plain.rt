@@ -1,5 +1,6 @@
 ghost use Rattle.std.specs.Prelude.{◌≡◌, ◌≢◌, ◌⊎◌, List, ℕ, Some};
 ghost use Rattle.cht_io.specs.Faults.{Rose};
+ghost use Rattle.cht_script.specs.Checking.{IsChecked, IsJudged};
 ghost use Rattle.cht_run.specs.Answers.{Answers, IsSilent, status_for};
 ghost use Rattle.cht_run.specs.Judged.{Judges};
 ghost use Rattle.cht_run.specs.Notes.{Notes};
@@ -7,14 +8,14 @@ ghost use Rattle.cht_run.specs.Notes.{Notes};
 use crate::notes::tell;
 use crate::reading::{ReadStop, read_all};
 use crate::run::run_script;
-use crate::status::{Fault, Status};
-use cht_ids::Memory;
+use crate::status::Status;
 use cht_io::{Sink, Source};
-use cht_script::{MOST_BYTES, read_script};
+use cht_script::{Checked, ScriptRefused, check, not_run_yet, parse};
 use std::alloc::Global;
 
-/// Runs the script of a source on the calling thread: reads it to its end, does its statements in order, up to the first
-/// that is refused, writes their text to `out`, and one line to `notes` where it ends otherwise than done. It always returns.
+/// Runs the script of a source on the calling thread: reads it to its end, looks for a fault, does its statements in order,
+/// up to the first that is refused, writes their text to `out`, and one line to `notes` where it ends otherwise than done. It
+/// always returns.
 pub fn plain_call<S: Source, K: Sink, N: Sink>(
     alloc: Global,
     source: &mut S,
@@ -65,12 +66,30 @@ fn judge<K: Sink>(alloc: Global, text: &[u8], out: &mut K) -> Status
     ensures silent { IsSilent result → K.took out.new ≡ K.took out.old }
     ensures write_fault { result ≡ Status.WriteFault → Rose (K.faults out.old) (K.faults out.new) }
 {
-    if text.len() > MOST_BYTES {
-        return Status::Refused(Fault { line: 0, code: 1 });
+    match examine(alloc, text) {
+        Ok(checked) => run_checked(alloc, &checked, out),
+        Err(ScriptRefused::Fault(fault)) => Status::Refused(fault),
+        Err(ScriptRefused::Memory) => Status::Memory,
     }
-    match read_script(alloc, text) {
-        Err(Memory) => Status::Memory,
-        Ok(None) => Status::Refused(Fault { line: 0, code: 20 }),
-        Ok(Some(script)) => run_script(alloc, &script, out),
+}
+
+// The statements of a text without a fault; else its fault.
+fn examine(alloc: Global, text: &[u8]) -> Result<Checked, ScriptRefused>
+    ensures { IsJudged text.now result }
+{
+    let script = parse(alloc, text)?;
+    check(alloc, script)
+}
+
+// Runs a script without a fault, if all of its statements are run.
+fn run_checked<K: Sink>(alloc: Global, checked: &Checked, out: &mut K) -> Status
+    requires { (text : List ℕ) × IsChecked text checked.now }
+    ensures judged { (text : List ℕ) → IsChecked text checked.now → Judges result text (K.took out.old) (K.took out.new) }
+    ensures silent { IsSilent result → K.took out.new ≡ K.took out.old }
+    ensures write_fault { result ≡ Status.WriteFault → Rose (K.faults out.old) (K.faults out.new) }
+{
+    match not_run_yet(checked) {
+        Some(fault) => Status::Refused(fault),
+        None => run_script(alloc, checked, out),
     }
 }

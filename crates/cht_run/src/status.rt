@@ -1,12 +1,7 @@
 ghost use Rattle.std.specs.Prelude.{◌≡◌};
 ghost use Rattle.cht_run.specs.Number.{number_of_status};
 
-/// What is wrong with a script: the line, counted from 1, or 0 for the text as a whole, and the code of the rule.
-#[derive(Clone, Copy, Debug, PartialEq, Eq)]
-pub struct Fault {
-    pub line: u64,
-    pub code: u32,
-}
+use cht_script::Fault;
 
 /// How a run ended.
 #[derive(Clone, Copy, Debug, PartialEq, Eq)]

@@ -13,9 +13,9 @@ use Rattle.cht_script.specs.Meaning.{Deed, Lists, Acts, line_of, deeds_of}
 abbrev pub is_run_verb : Verb → Bool
 is_run_verb Copy = true
 is_run_verb Add = true
-is_run_verb Mul = false
-is_run_verb TMul = false
-is_run_verb MulT = false
+is_run_verb Mul = true
+is_run_verb TMul = true
+is_run_verb MulT = true
 is_run_verb Square = false
 is_run_verb Full = false
 is_run_verb Trace = true

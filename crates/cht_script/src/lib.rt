@@ -105,8 +105,8 @@ pub fn check(alloc: Global, script: Script) -> Result<Checked, ScriptRefused>
     })
 }
 
-/// The first statement that is not run yet: a matrix in the symmetric form, or one of the products, squares and full forms. Its
-/// fault has the line of the statement, and code 20.
+/// The first statement that is not run yet: a matrix in the symmetric form, or one that wants such a matrix, `square` or
+/// `full`. Its fault has the line of the statement, and code 20.
 pub fn not_run_yet(checked: &Checked) -> Option<Fault>
     ensures { result ≡ not_run_in (map deed_in checked.now.steps) }
 {

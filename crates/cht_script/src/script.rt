@@ -61,8 +61,9 @@ impl Verb {
         ensures { result ≡ is_run_verb self }
     {
         match self {
-            Verb::Copy | Verb::Add | Verb::Trace | Verb::Count | Verb::Print | Verb::Delete => true,
-            Verb::Mul | Verb::TMul | Verb::MulT | Verb::Square | Verb::Full => false,
+            Verb::Copy | Verb::Add | Verb::Mul | Verb::TMul | Verb::MulT => true,
+            Verb::Trace | Verb::Count | Verb::Print | Verb::Delete => true,
+            Verb::Square | Verb::Full => false,
         }
     }
 }

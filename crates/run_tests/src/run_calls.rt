@@ -85,10 +85,10 @@ fn a_source_that_fails_leaves_nothing(rt: HostRuntime) -> Result<(), Fail> {
 
 #[test]
 fn the_longest_text(rt: HostRuntime) -> Result<(), Fail> {
-    for (len, code) in [(1usize << 26, 20u32), ((1 << 26) + 1, 1)] {
+    for (len, line, code) in [(1usize << 26, 2u64, 3u32), ((1 << 26) + 1, 0, 1)] {
         let text = spaces(rt.alloc(), len)?;
         let (status, out) = ran(rt.alloc(), &text, 1 << 20, 10)?;
-        assert_eq!(rt; status, Status::Refused(Fault { line: 0, code }));
+        assert_eq!(rt; status, Status::Refused(Fault { line, code }));
         assert!(rt; out.taken().is_empty());
     }
     Ok(())

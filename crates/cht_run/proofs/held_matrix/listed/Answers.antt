@@ -13,5 +13,5 @@ returns c =
     let good = c.requires.good in
     let side = side_of c.args.leaf c.args.height in
     let at : ℕ → ℕ → ℤ = λ i j. number_listed market.form market.entries (i + 1) (j + 1) in
-    held_as c.args.leaf c.args.height c.args.name market.rows market.columns c.in_ok-tree_of.field-0 (matrix_of_market market)
+    held_as c.args.leaf c.args.height market.rows market.columns c.in_ok-tree_of.field-0 (matrix_of_market market)
     (IsMatrix-made market.rows market.columns at) (height-made market.rows market.columns at) refl (listed_side side market.rows good.rows.1) (listed_side side market.columns good.columns.1) c.in_ok-tree_of.ensures

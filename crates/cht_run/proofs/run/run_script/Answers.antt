@@ -1,54 +1,58 @@
-use Rattle.std.proofs.Common.{◌+◌, List, [], map, drop, sym, ap, subst, arith}
-use Rattle.cht_script.specs.declared.script.Statement.{Statement}
-use Rattle.cht_script.specs.Reading.{AreGood}
-use Rattle.cht_run.specs.Held.{Environment, shape_of_known}
+use Rattle.std.proofs.Common.{◌+◌, ◌≤◌, None, List, ℕ, [], drop, sym, ap, subst, arith}
+use Rattle.cht_script.specs.declared.checked.Step.{Step}
 use Rattle.cht_run.specs.Listed.{most_listed}
-use Rattle.cht_run.specs.Running.{IsRunning}
-use Rattle.cht_run.proofs.Turns.{wider, good_next, running_begins, running_next, running_stops, next_statement}
+use Rattle.cht_run.proofs.Turns.{IsGoing, next_step, going_begins, going_ready, going_next, going_stops}
 use Rattle.cht_run.proofs.run.run_script.Goals as goal
 
-pub loop-statement-init : goal.loop-statement-init
-loop-statement-init g c =
-    let all = c.as_slice-statement-items.result.now in
+pub loop-step-init : goal.loop-step-init
+loop-step-init g c =
+    let all = c.args.checked.now.steps in
+    let took = g.K.Sink.took c.args.out.now in
     record {
-      same = c.as_slice-statement-items.ensures;
+      same = c.as_slice-step-items.ensures;
       later = omega arith;
-      good =
-          subst (λ (env : Environment). AreGood (most_listed env.side) (map shape_of_known env.known) all) (sym c.new-held.ensures)
-          (wider _ _ c.requires.grid [] all (subst (λ (ss : List Statement). AreGood c.args.script.now.grid [] ss) (sym c.as_slice-statement-items.ensures) c.requires.good));
-      running =
-          subst (λ (ss : List Statement). IsRunning c.args.script.now.statements ss c.new-held.result (g.K.Sink.took c.args.out.now) (g.K.Sink.took c.args.out.now)) (sym c.as_slice-statement-items.ensures)
-          (running_begins c.args.script.now.statements c.new-held.result (g.K.Sink.took c.args.out.now) (ap (λ (env : Environment). env.known) c.new-held.ensures));
+      wide = subst (λ (side : ℕ). c.args.checked.now.grid ≤ most_listed side) (sym c.new-held.ensures.side) c.requires.grid;
+      well = c.new-held.ensures.well;
+      going =
+          subst (λ (steps : List Step). IsGoing c.args.checked.now.grid all steps c.new-held.result took took) (sym c.as_slice-step-items.ensures)
+          (going_begins c.args.checked.now.grid all c.new-held.result took c.new-held.ensures.nothing
+          c.requires.steps c.requires.run);
     }
+
+pub act-requires-clause-ready : goal.act-requires-clause-ready
+act-requires-clause-ready g c =
+    let items = c.as_slice-step-items.result.now in
+    let i = c.loop-step.step-index in
+    let next = next_step items i c.step-item.result (omega (arith, c.loop-step-test.true)) c.step-item.is in
+    going_ready c.args.checked.now.grid c.args.checked.now.steps c.step-item.result (drop (i + 1) items) c.loop-step.held
+    (g.K.Sink.took c.args.out.now) (g.K.Sink.took c.loop-step.out) c.loop-step.invariant.wide
+    (subst (λ (steps : List Step). IsGoing c.args.checked.now.grid c.args.checked.now.steps steps c.loop-step.held (g.K.Sink.took c.args.out.now) (g.K.Sink.took c.loop-step.out)) next c.loop-step.invariant.going)
 
 pub returns-in-Err-clause-ran : goal.returns-in-Err-clause-ran
 returns-in-Err-clause-ran g c =
-    let items = c.as_slice-statement-items.result.now in
-    let i = c.loop-statement.statement-index in
-    let next = next_statement items i c.statement-item.result (omega (arith, c.loop-statement-test.true)) c.statement-item.is in
-    running_stops c.args.script.now.statements c.statement-item.result (drop (i + 1) items) c.loop-statement.held c.act.new.held
-    (g.K.Sink.took c.args.out.now) (g.K.Sink.took c.loop-statement.out) (g.K.Sink.took c.act.new.out) c.in-Err.stop c.stopped.result
-    (subst (λ (ss : List Statement). IsRunning c.args.script.now.statements ss c.loop-statement.held (g.K.Sink.took c.args.out.now) (g.K.Sink.took c.loop-statement.out)) next c.loop-statement.invariant.running)
-    c.in-Err.ensures.acts (rw c.line_of.ensures at c.stopped.ensures)
+    let items = c.as_slice-step-items.result.now in
+    let i = c.loop-step.step-index in
+    let next = next_step items i c.step-item.result (omega (arith, c.loop-step-test.true)) c.step-item.is in
+    going_stops c.args.checked.now.grid c.args.checked.now.steps c.step-item.result (drop (i + 1) items) c.loop-step.held c.act.new.held
+    (g.K.Sink.took c.args.out.now) (g.K.Sink.took c.loop-step.out) (g.K.Sink.took c.act.new.out) c.in-Err.stop c.stopped.result
+    (subst (λ (steps : List Step). IsGoing c.args.checked.now.grid c.args.checked.now.steps steps c.loop-step.held (g.K.Sink.took c.args.out.now) (g.K.Sink.took c.loop-step.out)) next c.loop-step.invariant.going)
+    c.in-Err.ensures.acts (rw c.line.ensures at c.stopped.ensures)
 
-pub loop-statement-preserved : goal.loop-statement-preserved
-loop-statement-preserved g c =
-    let items = c.as_slice-statement-items.result.now in
-    let i = c.loop-statement.statement-index in
-    let item = c.statement-item.result in
-    let env = c.loop-statement.held in
-    let next = next_statement items i item (omega (arith, c.loop-statement-test.true)) c.statement-item.is in
-    let good = subst (λ (ss : List Statement). AreGood (most_listed env.side) (map shape_of_known env.known) ss) next c.loop-statement.invariant.good in
-    let acts = c.in-Ok.ensures.acts in
+pub loop-step-preserved : goal.loop-step-preserved
+loop-step-preserved g c =
+    let items = c.as_slice-step-items.result.now in
+    let i = c.loop-step.step-index in
+    let item = c.step-item.result in
+    let env = c.loop-step.held in
+    let next = next_step items i item (omega (arith, c.loop-step-test.true)) c.step-item.is in
     record {
-      same = c.loop-statement.invariant.same;
-      later = omega (arith, c.loop-statement.invariant.later, c.in-Ok.ensures.later);
-      good =
-          subst (λ (later : Environment). AreGood (most_listed later.side) (map shape_of_known later.known) (drop (i + 1) items)) (sym acts.1)
-          (good_next (most_listed env.side) env item (drop (i + 1) items) good);
-      running =
-          running_next c.args.script.now.statements item (drop (i + 1) items) env c.act.new.held (g.K.Sink.took c.args.out.now)
-          (g.K.Sink.took c.loop-statement.out) (g.K.Sink.took c.act.new.out) tt
-          (subst (λ (ss : List Statement). IsRunning c.args.script.now.statements ss env (g.K.Sink.took c.args.out.now) (g.K.Sink.took c.loop-statement.out)) next c.loop-statement.invariant.running)
-          acts;
+      same = c.loop-step.invariant.same;
+      later = omega (arith, c.loop-step.invariant.later, c.in-Ok.ensures.later);
+      wide = subst (λ (side : ℕ). c.args.checked.now.grid ≤ most_listed side) (sym c.in-Ok.ensures.side) c.loop-step.invariant.wide;
+      well = c.in-Ok.ensures.well;
+      going =
+          going_next c.args.checked.now.grid c.args.checked.now.steps item (drop (i + 1) items) env c.act.new.held (g.K.Sink.took c.args.out.now)
+          (g.K.Sink.took c.loop-step.out) (g.K.Sink.took c.act.new.out) tt
+          (subst (λ (steps : List Step). IsGoing c.args.checked.now.grid c.args.checked.now.steps steps env (g.K.Sink.took c.args.out.now) (g.K.Sink.took c.loop-step.out)) next c.loop-step.invariant.going)
+          c.in-Ok.ensures.acts;
     }

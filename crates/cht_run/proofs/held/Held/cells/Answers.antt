@@ -1,14 +1,15 @@
-use Rattle.std.proofs.Common.{◌≡◌, IfOk, sym, subst}
-use Rattle.mm_text.specs.Cells.{cells_of, cells_listed}
-use Rattle.cht_run.specs.Held.{matrix_at}
-use Rattle.cht_run.proofs.Kept.{slot_matrix, slot_form}
+use Rattle.std.proofs.Common.{sym}
+use Rattle.cht_run.proofs.Kept.{is_found}
 use Rattle.cht_run.proofs.held.Held.cells.Goals as goal
 
-pub returns : goal.returns
-returns c =
-    let env = c.args.self.now in
-    subst (λ form. IfOk c.cells_in.result (λ cells. cells.items ≡ cells_listed form (matrix_at env c.args.slot)))
-    (sym (slot_form c.self.inside.leaf c.self.inside.height c.self.inside.named.items env c.args.slot c.self.view_is))
-    (subst (λ m. IfOk c.cells_in.result (λ cells. cells.items ≡ cells_of m))
-    (sym (slot_matrix c.self.inside.leaf c.self.inside.height c.self.inside.named.items env c.args.slot c.index-binding.result.now c.self.view_is c.requires c.index-binding.ensures))
-    c.cells_in.ensures)
+pub cells_in-requires-clause-canonical : goal.cells_in-requires-clause-canonical
+cells_in-requires-clause-canonical c = (is_found c.args.self.now c.args.name.now c.in-Some.one.now c.requires (sym c.in-Some.ensures.value)).held.tree.canonical
+
+pub cells_in-requires-clause-rows : goal.cells_in-requires-clause-rows
+cells_in-requires-clause-rows c = (is_found c.args.self.now c.args.name.now c.in-Some.one.now c.requires (sym c.in-Some.ensures.value)).held.rows
+
+pub cells_in-requires-clause-columns : goal.cells_in-requires-clause-columns
+cells_in-requires-clause-columns c = (is_found c.args.self.now c.args.name.now c.in-Some.one.now c.requires (sym c.in-Some.ensures.value)).held.columns
+
+pub cells_in-requires-clause-completed : goal.cells_in-requires-clause-completed
+cells_in-requires-clause-completed c = (is_found c.args.self.now c.args.name.now c.in-Some.one.now c.requires (sym c.in-Some.ensures.value)).held.tree.block
