@@ -20,6 +20,7 @@ mod Revising
 mod Runs
 mod Splicing
 mod Sweeps
+mod Tallies
 mod Tying
 mod Views
 mod Walking

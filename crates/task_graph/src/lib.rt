@@ -3,6 +3,7 @@
 
 mod abandoning;
 mod adding;
+mod awaiters;
 mod callers;
 mod entries;
 mod held;

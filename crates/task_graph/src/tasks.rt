@@ -1,9 +1,10 @@
-ghost use Rattle.std.specs.Prelude.{◌≡◌, ◌≢◌, ◌+◌, ◌<◌, ◌≤◌, ◌↔◌, ℕ, length, slice_get, option_map, Some, None, IsSome, OnOk, IsOk, IsTrue};
+ghost use Rattle.std.specs.Prelude.{◌≡◌, ◌≢◌, ◌+◌, ◌<◌, ◌≤◌, ◌^◌, ◌↔◌, ℕ, length, slice_get, option_map, Some, None, IsSome, IfSome, IfNone, OnOk, IsOk, IsTrue};
 ghost use Rattle.cht_ids.specs.declared.refs.Ref.{Ref as AnyRef};
 ghost use Rattle.task_states.specs.declared.states.Awaiter.{Awaiter as AnyAwaiter};
 ghost use Rattle.task_states.specs.declared.states.TaskStatus.TheVariants.{Ready, Running};
 ghost use Rattle.task_states.specs.States.{no_tasks, task_at, status, caller_of, kind_of, input_at, running, is_stopped, AwaitsNothing};
 ghost use Rattle.task_states.specs.Awaiters.{IsFree, IsNotAwaited, IsAwaiterFound, IsLeastAwaiter, IsLeastOf, IsRunnable, IsLater, IsWanted};
+ghost use Rattle.task_states.specs.Listing.{awaiters};
 ghost use Rattle.task_states.specs.Steps.{added, with_asked, started, given_back, delivered, forwarded, removed, with_stopped, abandoned};
 ghost use Rattle.task_graph.specs.Contents.{inputs_given, input_of, AreOf, AreFree, AreOfOneCaller, IsAskedOnce};
 
@@ -123,6 +124,17 @@ impl<K: Copy> Tasks<K> {
         match self.held.parts.entries.find(task) {
             None => None,
             Some(_) => self.held.parts.awaiter(task),
+        }
+    }
+
+    /// How many await a task; `None` exactly where 2^32 or more do. It costs a step for each.
+    pub fn awaiters(&self, task: TaskNo) -> Option<u32>
+        ensures some { IfSome result (λ n. n ≡ length (awaiters self.now.graph task)) }
+        ensures none { IfNone result (2 ^ 32 ≤ length (awaiters self.now.graph task)) }
+    {
+        match self.held.parts.entries.find(task) {
+            None => Some(0),
+            Some(_) => self.held.parts.awaiters(task),
         }
     }
 

@@ -1,0 +1,53 @@
+// How many await a task.
+ghost use Rattle.std.specs.Prelude.{◌≡◌, ◌≤◌, ◌^◌, None, IsSome, IfSome, IfNone, length};
+ghost use Rattle.task_states.specs.States.{task_at};
+ghost use Rattle.task_states.specs.Listing.{awaiters};
+ghost use Rattle.task_graph.specs.Graphs.{graph_of, IsWhole};
+ghost use Rattle.task_graph.specs.Counted.{IsCounted};
+
+use crate::entries::Spot;
+use crate::parts::Parts;
+
+impl<K: Copy> Parts<K> {
+    // How many inputs await a task, from the first on; `None` where more await it than 32 bits count.
+    fn inputs_awaiting(&self, task: u128, first: Option<Spot>) -> Option<u32>
+        requires whole { IsWhole self.now }
+        requires first { IsCounted self.now task first 0 }
+        ensures some { IfSome result (λ n. IsCounted self.now task None n) }
+        ensures none { IfNone result (2 ^ 32 ≤ length (awaiters (graph_of self.now) task)) }
+    {
+        let mut count: u32 = 0;
+        let mut next = first;
+        while let Some(spot) = next {
+            let link = self.entries.link(spot);
+            if count == u32::MAX {
+                return None;
+            }
+            count += 1;
+            next = link.next;
+        }
+        Some(count)
+    }
+
+    /// How many await a task; `None` exactly where more await it than 32 bits count.
+    pub fn awaiters(&self, task: u128) -> Option<u32>
+        requires whole { IsWhole self.now }
+        requires there { IsSome (task_at (graph_of self.now) task) }
+        ensures some { IfSome result (λ n. n ≡ length (awaiters (graph_of self.now) task)) }
+        ensures none { IfNone result (2 ^ 32 ≤ length (awaiters (graph_of self.now) task)) }
+    {
+        let entry = self.entries.get(task);
+        match self.inputs_awaiting(task, entry.first) {
+            None => None,
+            Some(inputs) => match entry.asked {
+                None => Some(inputs),
+                Some(_) => {
+                    if inputs == u32::MAX {
+                        return None;
+                    }
+                    Some(inputs + 1)
+                }
+            },
+        }
+    }
+}
