@@ -372,23 +372,25 @@ module _ {C K : Type 0} (lib : Meanings C K) (arity : C → ℕ) (control : Cont
       let h : Holding C = record { caller = caller; owner = id.owner; tree = tree } in
       let shown : held_shown control.asks more n entry ≡ Some h =
       ap (λ b. cond b None (holding_shown more entry (Caller caller))) (no_output n (Caller caller) (omega arith))
-      ∙ (λ i. Some (record { caller = caller; owner = sym owner i; tree = tree_is i })) in
-      (record {
-        content = content;
-        mentioned = mentioned.0.0;
-        all_children = many;
-        number = number;
-        after_is =
-            ap (machine_of lib) (tidied_grown drawn more grows.sound grows.reached)
-            ∙ state_grown lib arity control orderly more grows.is_more drawn n h (omega arith) facts.levels free (entry, here, shown)
-            (λ q e is. elim (naming-from control.names control.drawn (Caller caller) 0 content children orderly.within live q e is) [
-              | inl old ↦ inl old
-              | inr other ↦ elim other [
-                | inl new ↦ inr (inl new.0)
-                | inr copy ↦ inr (inr (ap (held_shown control.asks more q) copy.4))
-              ]
-            ]);
-      }, refl)
+      ∙ (λ i. Some (record { caller = caller; owner = sym owner i; tree = tree_is i })) in (
+        record {
+          content = content;
+          mentioned = mentioned.0.0;
+          all_children = many;
+          number = number;
+          after_is =
+              ap (machine_of lib) (tidied_grown drawn more grows.sound grows.reached)
+              ∙ state_grown lib arity control orderly more grows.is_more drawn n h (omega arith) facts.levels free (entry, here, shown)
+              (λ q e is. elim (naming-from control.names control.drawn (Caller caller) 0 content children orderly.within live q e is) [
+                | inl old ↦ inl old
+                | inr other ↦ elim other [
+                  | inl new ↦ inr (inl new.0)
+                  | inr copy ↦ inr (inr (ap (held_shown control.asks more q) copy.4))
+                ]
+              ]);
+        },
+        refl,
+      )
 
   pub register_stands : (plans : Plans K) (caller : ℕ) (id : Id) (children : List Ref) (content : C) → length children ≡ arity content → HoldsTogether lib (machine_of lib control)
       → is_allowed plans (forgotten arity control) (Register caller id children) ≡ true
