@@ -194,12 +194,7 @@ fn print<K: Sink>(held: &Held, name: &[u8], out: &mut K) -> Result<(), Stop>
 }
 
 // Writes the text of a matrix that has these numbers other than 0.
-fn write_cells<K: Sink>(
-    rows: u32,
-    columns: u32,
-    cells: &[Cell],
-    out: &mut K,
-) -> Result<(), Stop>
+fn write_cells<K: Sink>(rows: u32, columns: u32, cells: &[Cell], out: &mut K) -> Result<(), Stop>
     ensures written { IsWritten result true (text_of_cells General rows columns cells.now) (K.took out.old) (K.took out.new) }
     ensures cause { result ≡ Err Stop.WriteFault → Rose (K.faults out.old) (K.faults out.new) }
     ensures later { K.faults out.old ≤ K.faults out.new }

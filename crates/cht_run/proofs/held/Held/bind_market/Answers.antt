@@ -10,6 +10,6 @@ returns c =
     let one = c.in_ok-one.one in (
       refl,
       binds_held all _ c.args.name.now one (matrix_of_market c.args.market.now) c.requires.well refl refl
-      (λ other. btree_map_updates_str c.args.name.now all.named c.insert.new.self (Some one) c.in_ok-insert.ensures.updates other)
-      c.in_ok-one.ensures,
+          (λ other. btree_map_updates_str c.args.name.now all.named c.insert.new.self (Some one) c.in_ok-insert.ensures.updates other)
+          c.in_ok-one.ensures,
     )

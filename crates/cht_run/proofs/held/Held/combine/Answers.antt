@@ -21,5 +21,5 @@ returns c =
     (rw c.in-Some-2.is at c.in_ok-one.ensures) in (
       made.0,
       binds_held all _ c.args.name.now one (matrix_given (verb_of c.args.operation) (matrix_at all a) (matrix_at all b)) c.requires.well refl refl
-      (λ other. btree_map_updates_str c.args.name.now all.named c.insert.new.self (Some one) c.in_ok-insert.ensures.updates other) made.1,
+          (λ other. btree_map_updates_str c.args.name.now all.named c.insert.new.self (Some one) c.in_ok-insert.ensures.updates other) made.1,
     )
