@@ -13,7 +13,11 @@ use Rattle.cht_script.specs.declared.script.Names.{Names}
 use Rattle.cht_script.specs.declared.script.Verb.{Verb}
 use Rattle.cht_script.specs.declared.script.Verb.TheVariants as verb
 use Rattle.cht_script.specs.Meaning.{Known, Deed, Lists, Acts as Does, named_matrix, matrix_named, form_named, is_bounded, matrix_given, is_refused, known_by, text_by}
-use Rattle.cht_script.specs.Reading.{name_bytes, names_of}
+use Rattle.cht_script.specs.declared.script.Name.{Name}
+use Rattle.cht_script.specs.declared.script.Statement.{Statement}
+use Rattle.cht_script.specs.declared.script.Statement.TheVariants as statements
+use Rattle.mm_text.specs.declared.market.Market.{Market}
+use Rattle.cht_script.specs.Reading.{name_bytes, names_of, deed_of, matrix_of_market}
 use Rattle.cht_run.specs.declared.stop.Stop.{Stop}
 use Rattle.cht_run.specs.declared.stop.Stop.TheVariants as stops
 use Rattle.cht_run.specs.declared.operation.Operation.{Operation}
@@ -165,3 +169,11 @@ delete_acts env later line names done before count is =
     let a = name_bytes names.first in
     subst (λ ns. ActsOn (Does line verb.Delete ns) (Ok done) env later before before) (sym (one_name names count)) (λ known shows.
     (refl, shows_deleted env later known a shows is, Adds_nil before))
+
+-- a statement that lists a matrix
+pub market_statement : (env later : Held) (one : Statement) (line : ℕ) (to : Name) (market : Market) (r : Result (Unit {0}) Stop)
+    (before : Option (List ℕ)) → one ≡ statements.Market line to market → market.form ≡ General
+    → IsBound r true env (name_bytes to) (matrix_of_market market) later → ActsOn (deed_of one) r env later before before
+market_statement env later one line to market r before at general is =
+    subst (λ (one : Statement). ActsOn (deed_of one) r env later before before) (sym at)
+    (market_acts env later line (name_bytes to) market.form (matrix_of_market market) r before general is)
