@@ -13,7 +13,7 @@ use Rattle.cht_script.specs.declared.checked.Shape.{Shape}
 use Rattle.cht_script.specs.Newest.{newest}
 use Rattle.cht_script.specs.Verdict.{NamedShape, with_shape, has_name, is_known, shape_found, shape_in, is_among}
 use Rattle.cht_script.specs.Meaning.{Known, is_named, matrix_found, form_found, matrix_named, form_named, named_matrix, without_name}
-use Rattle.cht_script.proofs.Known.{any_newest, newest-push}
+use Rattle.cht_script.proofs.Newest.{any_newest, newest-push}
 use Rattle.cht_run.specs.declared.held.Held.{Held}
 use Rattle.cht_run.specs.Held.{found_in, matrix_or, matrix_at, Changes}
 use Rattle.cht_run.specs.Running.{matrix_of_known, Shows, HasShape, Agree}
