@@ -1,0 +1,9 @@
+mod AskCalls
+mod Calls
+mod FinishAllowed
+mod Found
+mod Happened
+mod Mine
+mod PresenceShown
+mod ToDo
+mod Together

@@ -1,0 +1,14 @@
+//! The core of the runtime: names of chunks in stores and maps, with a journal. It stands for a state of the machine of names, and each of
+//! its calls that changes it is one step of that machine.
+#![tactic(auto)]
+
+mod answers;
+mod asks;
+mod cores;
+mod looking;
+mod record;
+mod workers;
+
+pub use answers::{Collected, Idle};
+pub use cores::Core;
+pub use record::Record;

@@ -1,0 +1,13 @@
+pub mod Totals
+pub mod Needs
+pub mod Naming
+pub mod Working
+pub mod Listing
+pub mod Asking
+pub mod Tables
+pub mod Stopped
+pub mod Collected
+pub mod FourInputs
+pub mod NewAsk
+pub mod Fresh
+pub mod Emptied

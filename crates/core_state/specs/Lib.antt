@@ -1,0 +1,8 @@
+pub mod Contents
+pub mod Codes
+pub mod Conditions
+pub mod AskTable
+pub mod Lists
+pub mod Asked
+pub mod Needed
+pub mod Inside
