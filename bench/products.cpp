@@ -10,7 +10,7 @@
 #include <string>
 #include <vector>
 
-typedef __int128 Number;
+#include "scripts.hpp"
 
 static size_t leaf_side;
 static unsigned long long tasks;
@@ -147,16 +147,6 @@ static Number trace(const Tree &x, unsigned height) {
     return total;
 }
 
-static void print_number(Number value) {
-    char digits[48];
-    int at = 48;
-    unsigned __int128 rest = value < 0 ? -(unsigned __int128)value : (unsigned __int128)value;
-    do digits[--at] = (char)('0' + (int)(rest % 10)), rest /= 10;
-    while (rest != 0);
-    if (value < 0) digits[--at] = '-';
-    fwrite(digits + at, 1, (size_t)(48 - at), stdout);
-}
-
 static size_t entries_in(const Tree &x, unsigned height) {
     if (!x) return 0;
     if (height == 0) return x->numbers.size() - (size_t)std::count(x->numbers.begin(), x->numbers.end(), (Number)0);
@@ -185,24 +175,6 @@ static void print_row(const Tree &x, unsigned height, unsigned row, unsigned who
     print_row(quadrants[1], height - 1, low, whole, column + half);
 }
 
-static const char *at;
-
-static std::string word() {
-    while (*at == ' ' || *at == '\n') at++;
-    const char *start = at;
-    while (*at != 0 && *at != ' ' && *at != '\n') at++;
-    return std::string(start, at);
-}
-
-static long long number() {
-    while (*at == ' ' || *at == '\n') at++;
-    bool minus = *at == '-';
-    if (minus) at++;
-    unsigned long long n = 0;
-    while (*at >= '0' && *at <= '9') n = n * 10 + (unsigned)(*at++ - '0');
-    return minus ? -(long long)n : (long long)n;
-}
-
 static Matrix market(unsigned height) {
     at = strchr(strchr(at, '\n') + 1, '\n') + 1;
     Matrix m{(unsigned)number(), (unsigned)number(), nullptr};
@@ -220,11 +192,7 @@ static Matrix market(unsigned height) {
 
 int main(int count, char **words) {
     std::string text;
-    char piece[1 << 16];
-    size_t n;
-    while ((n = fread(piece, 1, sizeof piece, stdin)) > 0) text.append(piece, n);
-    at = text.c_str();
-    setvbuf(stdout, nullptr, _IOFBF, 1 << 20);
+    open_script(text);
     word();
     unsigned grid = (unsigned)number();
     word();

@@ -7,9 +7,11 @@
 #include <string>
 #include <vector>
 
+#include "scripts.hpp"
+
 struct Entry {
     unsigned row, column;
-    __int128 value;
+    Number value;
 };
 
 struct Matrix {
@@ -31,41 +33,13 @@ static Matrix sum(const Matrix &a, const Matrix &b) {
         } else if (x == a.entries.end() || before(*y, *x)) {
             c.entries.push_back(*y++);
         } else {
-            __int128 value = x->value + y->value;
+            Number value = x->value + y->value;
             if (value != 0) c.entries.push_back({x->row, x->column, value});
             ++x, ++y;
         }
     }
     c.entries.shrink_to_fit();
     return c;
-}
-
-static void print_number(__int128 value) {
-    char digits[48];
-    int at = 48;
-    unsigned __int128 rest = value < 0 ? -(unsigned __int128)value : (unsigned __int128)value;
-    do digits[--at] = (char)('0' + (int)(rest % 10)), rest /= 10;
-    while (rest != 0);
-    if (value < 0) digits[--at] = '-';
-    fwrite(digits + at, 1, (size_t)(48 - at), stdout);
-}
-
-static const char *at;
-
-static std::string word() {
-    while (*at == ' ' || *at == '\n') at++;
-    const char *start = at;
-    while (*at != 0 && *at != ' ' && *at != '\n') at++;
-    return std::string(start, at);
-}
-
-static long long number() {
-    while (*at == ' ' || *at == '\n') at++;
-    bool minus = *at == '-';
-    if (minus) at++;
-    unsigned long long n = 0;
-    while (*at >= '0' && *at <= '9') n = n * 10 + (unsigned)(*at++ - '0');
-    return minus ? -(long long)n : (long long)n;
 }
 
 static Matrix market() {
@@ -84,11 +58,7 @@ static Matrix market() {
 
 int main() {
     std::string text;
-    char piece[1 << 16];
-    size_t n;
-    while ((n = fread(piece, 1, sizeof piece, stdin)) > 0) text.append(piece, n);
-    at = text.c_str();
-    setvbuf(stdout, nullptr, _IOFBF, 1 << 20);
+    open_script(text);
     std::map<std::string, Matrix> named;
     at = strchr(at, '\n') + 1;
     for (std::string verb = word(); !verb.empty(); verb = word()) {
