@@ -14,7 +14,7 @@ use Rattle.name_machine.specs.Control.{Control}
 use Rattle.name_machine.specs.Facts.{HoldsTogether}
 use Rattle.name_machine.specs.Standing.{machine_of}
 use Rattle.name_machine.proofs.Stand.{ask_shown_has}
-use Rattle.core_state.specs.Conditions.{IsDelivered}
+use Rattle.core_steps.specs.Conditions.{IsDelivered}
 use Rattle.core_state.specs.Contents.{Contents, after_event}
 use Rattle.cht_core.specs.Events.{state}
 use Rattle.cht_core.specs.Answers.{HasAsked, IsNotDelivered, IsStopped}

@@ -23,7 +23,7 @@ use Rattle.name_machine.specs.Laws.{ComesOf}
 use Rattle.name_machine.specs.Forgetting.{forgotten}
 use Rattle.name_machine.specs.Replay.{is_id, is_mine, may_mention, is_ready, is_delivered, is_allowed}
 use Rattle.name_machine.specs.Standing.{machine_of}
-use Rattle.core_state.specs.Conditions.{RunsTask, bodies_of, finish_of}
+use Rattle.core_steps.specs.Conditions.{RunsTask, bodies_of, finish_of}
 use Rattle.core_state.specs.Contents.{Contents, after_event}
 use Rattle.cht_core.specs.Events.{plans_of, state, Stands, Happens, IsDone}
 use Rattle.name_machine.proofs.Runs.{facts_hold}

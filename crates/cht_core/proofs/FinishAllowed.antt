@@ -30,7 +30,7 @@ use Rattle.name_machine.proofs.Orderly.{input_is_live}
 use Rattle.name_machine.proofs.Stand.{shown_at}
 use Rattle.name_machine.proofs.Tasks.{mapped_from}
 use Rattle.name_machine.proofs.Values.{any_to}
-use Rattle.core_state.specs.Conditions.{RunsTask, presences, IsFormedFor, bodies_of, finish_of}
+use Rattle.core_steps.specs.Conditions.{RunsTask, presences, IsFormedFor, bodies_of, finish_of}
 use Rattle.cht_core.specs.Events.{plans_of}
 use Rattle.cht_core.proofs.Mine.{both_of}
 use Rattle.cht_core.proofs.PresenceShown.{presence_shown}

@@ -16,7 +16,7 @@ use Rattle.name_machine.specs.Forgetting.{forgotten}
 use Rattle.name_machine.specs.Standing.{task_shown, machine_of}
 use Rattle.name_machine.proofs.Stand.{shown_at, status_shown, not_true}
 use Rattle.name_machine.proofs.Values.{any_from}
-use Rattle.core_state.specs.Conditions.{RunsTask}
+use Rattle.core_steps.specs.Conditions.{RunsTask}
 use Rattle.cht_core.proofs.FinishAllowed.{there_from, runner_to, task_runs}
 
 module _ {C K : Type 0} (lib : Meanings C K) (arity : C → ℕ) (control : Control C (Unit {0}) K) where

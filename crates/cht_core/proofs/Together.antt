@@ -18,7 +18,7 @@ use Rattle.name_machine.proofs.Tasks.{mapped_from}
 use Rattle.name_machine.proofs.Values.{any_to, any_from}
 use Rattle.name_machine.proofs.Works.{chosen_from, chosen_to}
 use Rattle.name_states.specs.Trees.{tree_of}
-use Rattle.core_state.specs.Conditions.{HangsTogether}
+use Rattle.core_steps.specs.Conditions.{HangsTogether}
 
 -- what awaits stays so when it is shown
 awaits_shown : {C : Type 0} (g : Input Ref → Input (Tree C)) → ((a n : ℕ) → g (Awaits a n) ≡ Awaits a n) → (inputs : List (Input Ref)) (place a n : ℕ)

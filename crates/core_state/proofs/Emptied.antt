@@ -11,7 +11,7 @@ use Rattle.task_states.proofs.Maps.{same_maps}
 use Rattle.name_machine.specs.States.{has_ask}
 use Rattle.name_machine.specs.Control.{Control}
 use Rattle.name_machine.specs.Standing.{HasNothing}
-use Rattle.core_state.specs.Conditions.{HangsTogether}
+use Rattle.core_steps.specs.Conditions.{HangsTogether}
 use Rattle.core_state.proofs.Fresh.{no_ask}
 
 both : (a b : Bool) → (a && b) ≡ true → (a ≡ true) × (b ≡ true)

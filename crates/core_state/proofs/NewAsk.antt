@@ -29,7 +29,7 @@ use Rattle.name_machine.specs.Standing.{IsOrderly}
 use Rattle.name_machine.proofs.Tasks.{changed_other, changed_from}
 use Rattle.core_state.specs.AskTable.{AskTable}
 use Rattle.core_state.specs.Contents.{after_event}
-use Rattle.core_state.specs.Conditions.{HangsTogether}
+use Rattle.core_steps.specs.Conditions.{HangsTogether}
 use Rattle.core_state.specs.Needed.{due_for_id, due_for_ask, due_for_caller, total_by, total_below}
 use Rattle.core_state.specs.Inside.{contents_of, IsKept}
 use Rattle.core_state.proofs.Totals.{total_inserted, below_but_one}

@@ -1,6 +1,5 @@
 pub mod Contents
 pub mod Codes
-pub mod Conditions
 pub mod AskTable
 pub mod Lists
 pub mod Asked

@@ -10,7 +10,7 @@ ghost use Rattle.name_machine.specs.Standing.{IsOrderly};
 ghost use Rattle.chunk_refs.specs.Room.{workers_of};
 ghost use Rattle.core_state.specs.AskTable.{room_at};
 ghost use Rattle.core_state.specs.Contents.{after_event};
-ghost use Rattle.core_state.specs.Conditions.{HangsTogether, IsDelivered};
+ghost use Rattle.core_steps.specs.Conditions.{HangsTogether, IsDelivered};
 
 use crate::asked::Asks;
 use crate::inputs::{given, hold_inputs};

@@ -9,7 +9,7 @@ ghost use Rattle.name_machine.specs.Forgetting.{forgotten};
 ghost use Rattle.name_machine.specs.Replay.{runs_nothing};
 ghost use Rattle.name_machine.specs.Standing.{HasNothing};
 ghost use Rattle.cht_ids.specs.declared.refs.Ref.{Ref as AnyRef};
-ghost use Rattle.core_state.specs.Conditions.{HangsTogether, RunsTask};
+ghost use Rattle.core_steps.specs.Conditions.{HangsTogether, RunsTask};
 ghost use Rattle.core_state.specs.Lists.{AreIdle};
 
 use crate::asked::Asks;

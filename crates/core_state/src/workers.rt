@@ -5,7 +5,7 @@ ghost use Rattle.cht_history.specs.declared.event.Event.TheVariants.{Start, Give
 ghost use Rattle.name_machine.specs.Forgetting.{forgotten};
 ghost use Rattle.name_machine.specs.Replay.{runs_nothing};
 ghost use Rattle.core_state.specs.Contents.{after_event};
-ghost use Rattle.core_state.specs.Conditions.{HangsTogether, RunsTask};
+ghost use Rattle.core_steps.specs.Conditions.{HangsTogether, RunsTask};
 
 use crate::state::{CoreState, make_room};
 use cht_history::Event;

@@ -2,7 +2,7 @@ use Rattle.std.proofs.Common.{◌≡◌, true, IfSome, IfNone, subst}
 use Rattle.name_machine.specs.States.{Runs, IsIdle}
 use Rattle.name_machine.specs.Forgetting.{forgotten}
 use Rattle.name_machine.specs.Replay.{runs_nothing}
-use Rattle.core_state.specs.Conditions.{RunsTask}
+use Rattle.core_steps.specs.Conditions.{RunsTask}
 use Rattle.core_state.specs.Contents.{Contents}
 use Rattle.cht_core.specs.Events.{state}
 use Rattle.cht_core.proofs.FinishAllowed.{task_runs}

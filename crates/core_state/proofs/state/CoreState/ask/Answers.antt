@@ -12,7 +12,7 @@ use Rattle.task_graph.specs.Contents.{inputs_given}
 use Rattle.name_machine.specs.States.{has_ask}
 use Rattle.name_machine.specs.Standing.{IsOrderly}
 use Rattle.core_state.specs.Contents.{Contents}
-use Rattle.core_state.specs.Conditions.{HangsTogether}
+use Rattle.core_steps.specs.Conditions.{HangsTogether}
 use Rattle.core_state.proofs.Naming.{all_live}
 use Rattle.core_state.proofs.NewAsk.{known_of, there_now, not_awaited, free_number, no_task, no_ask_yet, asked_kept, asked_is}
 use Rattle.core_state.proofs.state.CoreState.ask.Goals as goal

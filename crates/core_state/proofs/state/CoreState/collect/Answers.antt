@@ -4,7 +4,7 @@ use Rattle.cht_history.specs.declared.event.Event.TheVariants.{Collect}
 use Rattle.task_states.specs.States.{is_stopped}
 use Rattle.name_machine.specs.States.{has_ask}
 use Rattle.core_state.specs.Contents.{Contents}
-use Rattle.core_state.specs.Conditions.{IsDelivered}
+use Rattle.core_steps.specs.Conditions.{IsDelivered}
 use Rattle.core_state.proofs.Working.{still_is}
 use Rattle.core_state.proofs.Collected.{output_is, owed_for_collect, one_owed, collected_kept}
 use Rattle.core_state.proofs.state.CoreState.collect.Goals as goal

@@ -4,7 +4,7 @@ use Rattle.cht_history.specs.declared.event.Event.TheVariants.{GiveBack}
 use Rattle.task_states.specs.States.{task_at}
 use Rattle.task_states.specs.Steps.{given_back}
 use Rattle.core_state.specs.Contents.{Contents}
-use Rattle.core_state.specs.Conditions.{HangsTogether}
+use Rattle.core_steps.specs.Conditions.{HangsTogether}
 use Rattle.core_state.proofs.Working.{ended_kept, owed_for_run, running_is, ran_is, run_test, still_is}
 use Rattle.core_state.proofs.state.CoreState.give_back.Goals as goal
 

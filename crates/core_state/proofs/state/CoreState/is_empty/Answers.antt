@@ -1,6 +1,6 @@
 use Rattle.std.proofs.Common.{sym, subst}
 use Rattle.core_state.specs.Contents.{Contents}
-use Rattle.core_state.specs.Conditions.{HangsTogether}
+use Rattle.core_steps.specs.Conditions.{HangsTogether}
 use Rattle.core_state.proofs.Emptied.{empty_is}
 use Rattle.core_state.proofs.state.CoreState.is_empty.Goals as goal
 

@@ -1,0 +1,7 @@
+//! What a finish makes of names and of unfinished tasks, stage by stage: it registers chunks, adds tasks that hold their inputs, settles or
+//! hands on what is awaited, and ends the task with what it holds.
+#![tactic(auto)]
+
+mod inputs;
+
+pub use inputs::hold_input;
