@@ -3,5 +3,7 @@
 #![tactic(auto)]
 
 mod inputs;
+mod reading;
 
 pub use inputs::hold_input;
+pub use reading::read_place;
