@@ -2,8 +2,10 @@
 //! hands on what is awaited, and ends the task with what it holds.
 #![tactic(auto)]
 
+mod chunks;
 mod inputs;
 mod reading;
 
+pub use chunks::register_chunks;
 pub use inputs::hold_input;
 pub use reading::read_place;
