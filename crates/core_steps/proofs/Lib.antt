@@ -1,2 +1,3 @@
+pub mod ChunksFormed
 pub mod Places
 pub mod Registering
