@@ -3,5 +3,7 @@
 #![tactic(auto)]
 
 mod inputs;
+mod settling;
 
 pub use inputs::hold_input;
+pub use settling::{renumbered, settle};
