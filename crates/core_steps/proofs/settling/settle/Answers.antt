@@ -1,6 +1,6 @@
-use Rattle.std.proofs.Common.{◌≡◌, ◌+◌, ◌∙◌, refl, ap, length, Some, arith}
+use Rattle.std.proofs.Common.{◌≡◌, ◌+◌, ◌∙◌, refl, subst, length, Some, arith}
 use Rattle.cht_ids.specs.declared.refs.Ref.{Ref}
-use Rattle.task_states.specs.Awaiters.{IsLeastAwaiter, IsNotAwaited}
+use Rattle.task_states.specs.Awaiters.{IsAwaiterFound}
 use Rattle.task_states.specs.Steps.{delivered}
 use Rattle.task_states.specs.Listing.{awaiters}
 use Rattle.core_steps.proofs.Delivering.{one_less, settling_step, settling_starts, names_settled, graph_settled, asked_settled}
@@ -46,14 +46,14 @@ loop-awaiter-preserved g c =
 pub returns-clause-names : goal.returns-clause-names
 returns-clause-names g c =
     names_settled c.args.names.now.names c.args.graph.now.graph c.args.ready.now.items c.args.task c.args.r c.loop-awaiter.names.names c.loop-awaiter.graph.graph c.loop-awaiter.ready.items c.loop-awaiter.asked
-    c.loop-awaiter.invariant.settling (c.in_default.ensures tt)
+    c.loop-awaiter.invariant.settling (subst (IsAwaiterFound c.loop-awaiter.graph.graph c.args.task) c.in_default.is c.awaiter.ensures)
 
 pub returns-clause-graph : goal.returns-clause-graph
 returns-clause-graph g c =
     graph_settled c.args.names.now.names c.args.graph.now.graph c.args.ready.now.items c.args.task c.args.r c.loop-awaiter.names.names c.loop-awaiter.graph.graph c.loop-awaiter.ready.items c.loop-awaiter.asked
-    c.loop-awaiter.invariant.settling (c.in_default.ensures tt)
+    c.loop-awaiter.invariant.settling (subst (IsAwaiterFound c.loop-awaiter.graph.graph c.args.task) c.in_default.is c.awaiter.ensures)
 
 pub returns-clause-asked : goal.returns-clause-asked
 returns-clause-asked g c =
     asked_settled c.args.names.now.names c.args.graph.now.graph c.args.ready.now.items c.args.task c.args.r c.loop-awaiter.names.names c.loop-awaiter.graph.graph c.loop-awaiter.ready.items c.loop-awaiter.asked
-    c.loop-awaiter.invariant.settling (c.in_default.ensures tt)
+    c.loop-awaiter.invariant.settling (subst (IsAwaiterFound c.loop-awaiter.graph.graph c.args.task) c.in_default.is c.awaiter.ensures)
