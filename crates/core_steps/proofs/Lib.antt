@@ -1,1 +1,3 @@
 mod Delivering
+pub mod Awaited
+pub mod Resolved
