@@ -1,3 +1,4 @@
 pub mod Conditions
 pub mod Begin
 pub mod Registrable
+pub mod Delivered

@@ -5,7 +5,9 @@
 mod chunks;
 mod inputs;
 mod reading;
+mod settling;
 
 pub use chunks::register_chunks;
 pub use inputs::hold_input;
 pub use reading::read_place;
+pub use settling::{renumbered, settle};
