@@ -4,3 +4,6 @@ pub mod Registering
 mod Delivering
 pub mod Awaited
 pub mod Resolved
+pub mod Holding
+pub mod Adding
+pub mod ReadyForTasks

@@ -2,3 +2,4 @@ pub mod Conditions
 pub mod Begin
 pub mod Registrable
 pub mod Delivered
+pub mod NewTasks

@@ -6,8 +6,10 @@ mod chunks;
 mod inputs;
 mod reading;
 mod settling;
+mod tasks;
 
 pub use chunks::register_chunks;
 pub use inputs::hold_input;
 pub use reading::read_place;
 pub use settling::{renumbered, settle};
+pub use tasks::add_tasks;
