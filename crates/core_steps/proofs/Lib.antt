@@ -1,1 +1,4 @@
 pub mod Places
+pub mod Holding
+pub mod Adding
+pub mod ReadyForTasks

@@ -4,6 +4,8 @@
 
 mod inputs;
 mod reading;
+mod tasks;
 
 pub use inputs::hold_input;
 pub use reading::read_place;
+pub use tasks::add_tasks;
