@@ -6,6 +6,7 @@ against the rules of the language, and prints the best time, the peak memory, an
 in proportion to the bytes. Usage: bench/verdict.py
 """
 import os
+import random
 import subprocess
 import sys
 import tempfile
@@ -69,6 +70,22 @@ def late_fault(size):
     return "".join(parts), f"cht: line {count + 5}: fault 5 Number\n"
 
 
+def late_fault_in_any_order(size):
+    """Entries of places in any order, with a value that is no number in the last line: code 5 there."""
+    order = random.Random(7)
+    places = list(range(4096 * 4096))
+    order.shuffle(places)
+    parts = [f"grid 4096 leaf 32\nmarket a\n{BANNER}4096 4096 16777216\n"]
+    length, count = len(parts[0]), 0
+    while length < size - 32:
+        line = f"{places[count] // 4096 + 1} {places[count] % 4096 + 1} 7\n"
+        parts.append(line)
+        length += len(line)
+        count += 1
+    parts.append("1 1 x\n")
+    return "".join(parts), f"cht: line {count + 5}: fault 5 Number\n"
+
+
 INPUTS = [
     ("one long line", one_line),
     ("blank lines", blank_lines),
@@ -76,6 +93,7 @@ INPUTS = [
     ("a new name in each line", many_names),
     ("one place over and over", one_place),
     ("entries in order, the last one broken", late_fault),
+    ("entries in any order, the last one broken", late_fault_in_any_order),
 ]
 
 

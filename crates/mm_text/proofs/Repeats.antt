@@ -1,16 +1,16 @@
 -- The first repeat in the order of a text is the least line of those that name the place of their neighbour, where the
 -- entries stand in the order of their places and lines.
-use Rattle.std.proofs.Common.{◌≡◌, ◌⊎◌, inl, inr, ℕ, zero, suc, ◌+◌, ◌*◌, ◌^◌, ◌<◌, ◌≤◌, min, Bool, true, false, cond, eqb, List, [], ◌∷◌, ◌++◌, length, get_or, Option, None, Some, IsPermutation, refl, sym, ap, ◌∙◌, subst, arith}
+use Rattle.std.proofs.Common.{◌≡◌, ◌⊎◌, inl, inr, ℕ, zero, suc, ◌+◌, ◌*◌, ◌^◌, ◌<◌, ◌≤◌, min, Bool, true, false, cond, eqb, ltb, List, [], ◌∷◌, ◌++◌, length, get_or, Option, None, Some, IsPermutation, refl, sym, ap, ◌∙◌, subst, arith}
 use Rattle.std.specs.Prelude.{Contains}
 use Rattle.std.specs.List.{list_any, AllByRecursion, IsDistinct}
 use Rattle.std.specs.List.Sorted.{IsNonDecreasingBy}
-use Rattle.std.proofs.lemmas.Bool.{cases_Bool, cond_both, cond-true, cond-false, and_from, or_cases, or_left, or_right, both_ways, true≢false, eqb-true, eqb-false, eq-eqb, lt-ltb, false_from_ne_true}
+use Rattle.std.proofs.lemmas.Bool.{cases_Bool, and_parts, ltb-true, cond_both, cond-true, cond-false, and_from, or_cases, or_left, or_right, both_ways, true≢false, eqb-true, eqb-false, eq-eqb, lt-ltb, false_from_ne_true}
 use Rattle.std.proofs.lemmas.Bool.Decides.{nat_tests}
 use Rattle.std.proofs.lemmas.List.Folds.{list_any-append}
 use Rattle.std.proofs.lemmas.List.Sorted.{Contains-permutation, IsPermutation-sym}
 use Rattle.std.proofs.lemmas.Map.Keys.{IsDistinct-IsPermutation}
 use Rattle.mm_text.specs.declared.places.Listed.{Listed}
-use Rattle.mm_text.specs.Places.{place_of, rise, entries_of, AreListed, repeats, first_repeat, rank_of, sooner, least_repeat}
+use Rattle.mm_text.specs.Places.{place_of, places_of, are_rising, rise, entries_of, AreListed, repeats, first_repeat, rank_of, sooner, least_repeat}
 use Rattle.mm_text.proofs.Order.{same_place, other_place}
 
 -- ---- Among a list
@@ -365,3 +365,54 @@ pub least_short : (found : Option ℕ) (xs : List Listed) → length xs < 2 → 
 least_short found [] lt = refl
 least_short found (x ∷ []) lt = refl
 least_short found (x ∷ y ∷ ys) lt = absurd (omega arith)
+
+-- ---- Places that are apart
+
+rising_above : (k n : ℕ) (ns : List ℕ) → k ≤ n → are_rising (n ∷ ns) ≡ true → AllByRecursion (λ m. eqb k m ≡ false) ns
+rising_above k n [] le h = tt
+rising_above k n (m ∷ ns) le h =
+    let p = and_parts (ltb n m) (are_rising (m ∷ ns)) h in
+    let lt = ltb-true n m p.0 in
+    (false_from_ne_true _ (λ same. let e = eqb-true k m same in omega (arith, lt, e, le)), rising_above k m ns (omega (arith, lt, le)) p.1)
+
+rising_distinct : (ns : List ℕ) → are_rising ns ≡ true → IsDistinct eqb ns
+unfolding IsDistinct
+rising_distinct [] h = tt
+rising_distinct (n ∷ []) h = (tt, tt)
+rising_distinct (n ∷ m ∷ ns) h = (rising_above n n (m ∷ ns) (omega arith) h, rising_distinct (m ∷ ns) (and_parts (ltb n m) (are_rising (m ∷ ns)) h).1)
+
+-- none of these names a place that was named before
+abbrev AreNew : List Listed → List Listed → Type 0
+AreNew before = AllByRecursion (λ (x : Listed). list_any (repeats x) before ≡ false)
+
+new_more : (before : List Listed) (z : Listed) (xs : List Listed) → AreNew before xs → AllByRecursion (λ m. eqb (place_of z.entry) m ≡ false) (places_of xs) → AreNew (before ++ z ∷ []) xs
+new_more before z [] new apart = tt
+new_more before z (x ∷ xs) new apart = (
+  false_from_ne_true _ (λ any. elim (any-less x z before any) [
+    | inl old ↦ both_ways _ new.0 old
+    | inr one ↦ both_ways _ apart.0 (eq-eqb (place_of z.entry) (place_of x.entry) (same_place x.entry z.entry one))
+  ]),
+  new_more before z xs new.1 apart.1,
+)
+
+apart_from : (before xs : List Listed) → AreNew before xs → IsDistinct eqb (places_of xs) → first_repeat before xs ≡ None
+unfolding IsDistinct
+apart_from before [] new apart = refl
+apart_from before (x ∷ xs) new apart =
+    cond-false (list_any (repeats x) before) (Some x.line) (first_repeat (before ++ x ∷ []) xs) new.0
+    ∙ apart_from (before ++ x ∷ []) xs (new_more before x xs new.1 apart.0) apart.1
+
+all_new : (xs : List Listed) → AreNew [] xs
+all_new [] = tt
+all_new (x ∷ xs) = (refl, all_new xs)
+
+-- where the places in order rise, no entry names the place of one before it
+pub apart_sorted : (xs : List Listed) (ns : List ℕ) → IsPermutation (places_of xs) ns → are_rising ns ≡ true → first_repeat [] xs ≡ None
+apart_sorted xs ns p rises =
+    apart_from [] xs (all_new xs) (IsDistinct-IsPermutation eqb eqb_flips ns (places_of xs) (IsPermutation-sym (places_of xs) ns p) (rising_distinct ns rises))
+
+-- fewer than two numbers rise
+pub rising_short : (ns : List ℕ) → length ns < 2 → are_rising ns ≡ true
+rising_short [] lt = refl
+rising_short (n ∷ []) lt = refl
+rising_short (n ∷ m ∷ ns) lt = absurd (omega arith)

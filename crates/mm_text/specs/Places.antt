@@ -3,7 +3,8 @@ use Rattle.std.specs.Prelude.{ℕ, ◌+◌, ◌*◌, ◌^◌, ◌<◌, min, Bool
 use Rattle.std.specs.List.{list_any}
 use Rattle.mm_text.specs.declared.market.Entry.{Entry}
 use Rattle.mm_text.specs.declared.places.Listed.{Listed}
-use Rattle.mm_text.specs.Block.{names}
+use Rattle.mm_text.specs.declared.market.MarketFault.{MarketFault}
+use Rattle.mm_text.specs.Block.{names, fault_at}
 use Rattle.mm_text.specs.Cells.{is_zero}
 
 -- the place of an entry as one number
@@ -25,6 +26,16 @@ rise (e ∷ f ∷ entries) = nat_lt (place_of e) (place_of f) && rise (f ∷ ent
 abbrev pub entries_of : List Listed → List Entry
 entries_of listed = map (λ (one : Listed). one.entry) listed
 
+-- the places of entries
+abbrev pub places_of : List Listed → List ℕ
+places_of listed = map (λ (one : Listed). place_of one.entry) listed
+
+-- whether each number is greater than the one before
+abbrev pub are_rising : List ℕ → Bool
+are_rising [] = true
+are_rising (n ∷ []) = true
+are_rising (n ∷ m ∷ numbers) = nat_lt n m && are_rising (m ∷ numbers)
+
 -- Entries as a text lists them: the numbers of their lines rise and are greater than n. Columns have 32 bits, and lines 64.
 abbrev pub AreListed : ℕ → List Listed → Type 0
 AreListed n [] = Unit {0}
@@ -38,6 +49,11 @@ repeats one earlier = names one.entry.row one.entry.column earlier.entry
 abbrev pub first_repeat : List Listed → List Listed → Option ℕ
 first_repeat before [] = None
 first_repeat before (one ∷ ones) = if list_any (repeats one) before then Some one.line else first_repeat (before ++ one ∷ []) ones
+
+-- the fault of a block whose entries end before a line with a fault of its own: a repeat among them, else that one
+abbrev pub fault_before : MarketFault → Option ℕ → MarketFault
+fault_before stop None = stop
+fault_before stop (Some line) = fault_at line 11
 
 -- the place and the line as one number
 abbrev pub rank_of : Listed → ℕ

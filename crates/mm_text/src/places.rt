@@ -1,7 +1,7 @@
 ghost use Rattle.std.specs.Prelude.{◌≡◌, ◌+◌, ◌*◌, ◌^◌, [], true, None, IfOk, IfErr, IsPermutation};
 ghost use Rattle.std.specs.List.{filter};
 ghost use Rattle.mm_text.specs.declared.market.MarketRefused.TheVariants as refusals;
-ghost use Rattle.mm_text.specs.Places.{AreListed, entries_of, first_repeat, least_repeat, place_of, rank_of, rise, is_number, sooner};
+ghost use Rattle.mm_text.specs.Places.{AreListed, entries_of, places_of, are_rising, first_repeat, least_repeat, place_of, rank_of, rise, is_number, sooner};
 
 use crate::market::{Entry, MarketRefused};
 use std::alloc::Global;
@@ -74,6 +74,42 @@ pub(crate) fn sort_by_place(listed: &mut Vec<Listed>) -> Option<u64>
 {
     listed.sort_unstable_by_key(rank);
     least_repeat(listed)
+}
+
+// The places of entries, in any order.
+fn places(alloc: Global, listed: &[Listed]) -> Result<Vec<u64>, MarketRefused>
+    ensures places { IfOk result (λ places. places.items ≡ places_of listed.now) }
+    ensures memory { IfErr result (λ refused. refused ≡ refusals.Memory) }
+{
+    let mut places = Vec::with_capacity(alloc, listed.len())?;
+    for one in listed {
+        places.push(place(&one.entry))?;
+    }
+    Ok(places)
+}
+
+// Whether each number is greater than the one before.
+fn are_rising(numbers: &[u64]) -> bool
+    ensures { result ≡ are_rising numbers.now }
+{
+    let mut rest = numbers;
+    while let [one, next, ..] = rest {
+        if *next <= *one {
+            return false;
+        }
+        rest = &rest[1..];
+    }
+    true
+}
+
+// Whether no two entries name one place. It sorts the places alone, which takes half the time of a sort of the entries.
+pub(crate) fn are_apart(alloc: Global, listed: &[Listed]) -> Result<bool, MarketRefused>
+    ensures apart { IfOk result (λ apart. apart ≡ true → first_repeat [] listed.now ≡ None) }
+    ensures memory { IfErr result (λ refused. refused ≡ refusals.Memory) }
+{
+    let mut places = places(alloc, listed)?;
+    places.sort_unstable();
+    Ok(are_rising(&places))
 }
 
 // The entries whose values are not 0.
