@@ -1,5 +1,5 @@
 -- The places of entries, in their order: row by row, and within a row by rising column.
-use Rattle.std.specs.Prelude.{ℕ, ◌+◌, ◌*◌, ◌^◌, ◌<◌, min, Bool, true, ◌&&◌, ◌==◌, not, nat_lt, if◌then◌else◌, List, [], ◌∷◌, ◌++◌, map, Option, None, Some}
+use Rattle.std.specs.Prelude.{ℕ, ◌+◌, ◌*◌, ◌^◌, ◌%◌, ◌<◌, min, get_or, slice_set, Bool, true, ◌&&◌, ◌==◌, not, nat_lt, if◌then◌else◌, List, [], ◌∷◌, ◌++◌, map, Option, None, Some}
 use Rattle.std.specs.List.{list_any}
 use Rattle.mm_text.specs.declared.market.Entry.{Entry}
 use Rattle.mm_text.specs.declared.places.Listed.{Listed}
@@ -29,6 +29,23 @@ entries_of listed = map (λ (one : Listed). one.entry) listed
 -- the places of entries
 abbrev pub places_of : List Listed → List ℕ
 places_of listed = map (λ (one : Listed). place_of one.entry) listed
+
+-- the slot of an entry in a table of so many slots; entries of one place have one slot
+abbrev pub slot_of : ℕ → ℕ → Listed → ℕ
+slot_of slots width one = (one.entry.row * width + one.entry.column) % slots
+
+-- a table in which one more entry is marked at its slot: 1 for the first, and 2 from the second on
+abbrev pub with_mark : List ℕ → ℕ → List ℕ
+with_mark marks slot = slice_set marks slot (min 2 (get_or marks slot 0 + 1))
+
+-- a table in which these entries are marked, each at its slot
+abbrev pub all_marked : (Listed → ℕ) → List ℕ → List Listed → List ℕ
+all_marked slot marks [] = marks
+all_marked slot marks (one ∷ ones) = all_marked slot (with_mark marks (slot one)) ones
+
+-- whether another entry was marked at the slot of this one
+abbrev pub is_shared : (Listed → ℕ) → List ℕ → Listed → Bool
+is_shared slot marks one = get_or marks (slot one) 0 == 2
 
 -- whether each number is greater than the one before
 abbrev pub are_rising : List ℕ → Bool

@@ -9,6 +9,7 @@ use crate::entries::{Gathered, read_entries};
 use crate::head::read_head;
 use crate::market::{Market, MarketFault, MarketRead, MarketRefused};
 use crate::places::{Listed, are_apart, numbers, sort_by_place};
+use crate::sizes::SizeLine;
 use cht_ids::List;
 use std::alloc::Global;
 
@@ -26,6 +27,7 @@ fn repeated(line: u64) -> MarketFault
 // them, else that one. Where no place is named twice, which is most often so, the places alone are sorted.
 fn first_fault(
     alloc: Global,
+    sizes: SizeLine,
     listed: Vec<Listed>,
     stop: MarketFault,
 ) -> Result<MarketFault, MarketRefused>
@@ -33,7 +35,7 @@ fn first_fault(
     ensures fault { IfOk result (λ fault. fault ≡ fault_before stop (first_repeat [] listed.items)) }
     ensures memory { IfErr result (λ refused. refused ≡ refusals.Memory) }
 {
-    let apart = are_apart(alloc, &listed)?;
+    let apart = are_apart(alloc, &listed, sizes.rows, sizes.columns)?;
     if apart {
         return Ok(stop);
     }
@@ -67,7 +69,7 @@ pub fn read_market(alloc: Global, bytes: &[u8], grid: u32) -> Result<MarketRead,
         end,
     } = read_entries(alloc, head.form, head.sizes, head.behind)?;
     if let Some(fault) = stop {
-        let first = first_fault(alloc, listed, fault)?;
+        let first = first_fault(alloc, head.sizes, listed, fault)?;
         return Err(MarketRefused::Fault(first));
     }
     if let Some(line) = sort_by_place(&mut listed) {
