@@ -11,6 +11,7 @@ import subprocess
 import sys
 import tempfile
 import time
+from concurrent.futures import ProcessPoolExecutor
 
 from parts import PROGRAM
 
@@ -115,6 +116,14 @@ def judged(path, wanted):
     return best, peak
 
 
+def write_input(made, size, path):
+    """Writes an input, and answers what the program is to tell of it."""
+    text, wanted = made(size)
+    with open(path, "w") as out:
+        out.write(text)
+    return wanted
+
+
 def main():
     if not os.path.exists(PROGRAM):
         sys.exit("build the program first: bin/cht plain < examples/first.cht")
@@ -124,9 +133,9 @@ def main():
         for name, made in INPUTS:
             times = []
             for size in (WHOLE // 2, WHOLE):
-                text, wanted = made(size)
-                with open(path, "w") as out:
-                    out.write(text)
+                # In a process of its own: a child's peak of memory is at least that of the process that it was made from.
+                with ProcessPoolExecutor(max_workers=1) as writer:
+                    wanted = writer.submit(write_input, made, size, path).result()
                 times.append(judged(path, wanted))
             growth = times[1][0] / times[0][0]
             worst = max(worst, growth)
