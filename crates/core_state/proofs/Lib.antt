@@ -11,3 +11,5 @@ pub mod FourInputs
 pub mod NewAsk
 pub mod Fresh
 pub mod Emptied
+pub mod Ended
+pub mod TasksEnded
