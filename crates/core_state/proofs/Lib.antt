@@ -13,3 +13,4 @@ pub mod Fresh
 pub mod Emptied
 pub mod Ended
 pub mod TasksEnded
+pub mod OutputsEnded
