@@ -11,3 +11,7 @@ pub mod FourInputs
 pub mod NewAsk
 pub mod Fresh
 pub mod Emptied
+pub mod Ended
+pub mod TasksEnded
+pub mod OutputsEnded
+pub mod GivenUp
