@@ -3,6 +3,7 @@ mod Calls
 mod FinishAllowed
 mod Found
 mod Happened
+mod InputTrees
 mod Mine
 mod PresenceShown
 mod ToDo

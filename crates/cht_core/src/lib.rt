@@ -5,6 +5,7 @@
 mod answers;
 mod asks;
 mod cores;
+mod granting;
 mod grants;
 mod looking;
 mod record;
