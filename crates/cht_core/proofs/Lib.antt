@@ -6,5 +6,6 @@ mod Happened
 mod InputTrees
 mod Mine
 mod PresenceShown
+mod StartCalls
 mod ToDo
 mod Together

@@ -1,15 +1,48 @@
 ghost use Rattle.std.specs.Prelude.{◌≡◌, ℕ, ◌<◌, IfSome, IfNone};
 ghost use Rattle.cht_history.specs.declared.event.Event.TheVariants.{GiveBack};
+ghost use Rattle.task_states.specs.declared.states.TaskStatus.TheVariants.{Ready};
+ghost use Rattle.task_states.specs.States.{status as status_at};
 ghost use Rattle.name_machine.specs.States.{Runs as RunsIn, IsIdle as IsIdleIn};
 ghost use Rattle.cht_core.specs.Events.{state, Happens};
-ghost use Rattle.cht_core.specs.Answers.{IsToDo};
+ghost use Rattle.cht_core.specs.Answers.{IsToDo, IsStarted};
 
-use crate::answers::Idle;
+use crate::answers::{Idle, Start, Started};
 use crate::cores::Core;
 use cht_ids::TaskNo;
+use task_states::TaskStatus;
 use task_types::Library;
 
 impl<L: Library> Core<L> {
+    /// A worker that runs nothing begins a task, where it is Ready. It gets the task's kind, and the content of each input that is not
+    /// null with the mask of the children that are there.
+    pub fn start(&mut self, w: u32, task: TaskNo) -> Start<L>
+        requires worker { w < self.old.workers }
+        requires idle { IsIdleIn (state L.meanings self.old) w }
+        ensures { IsStarted L.meanings L.Chunk.arity self.old self.new w task result }
+    {
+        match self.kept.status(task) {
+            TaskStatus::Ready => self.start_ready(w, task),
+            status => Start::NotReady(status),
+        }
+    }
+
+    // The same for a task that is Ready.
+    fn start_ready(&mut self, w: u32, task: TaskNo) -> Start<L>
+        requires worker { w < self.old.workers }
+        requires idle { IsIdleIn (state L.meanings self.old) w }
+        requires ready { status_at self.old.control.graph task ≡ Ready }
+        ensures { IsStarted L.meanings L.Chunk.arity self.old self.new w task result }
+    {
+        let kind = self.kept.kind(task);
+        let Ok(inputs) = self.grants(task) else {
+            return Start::Memory;
+        };
+        let Ok(()) = self.kept.start(w, task) else {
+            return Start::Memory;
+        };
+        Start::Started(Started { task, kind, inputs })
+    }
+
     /// A worker gives the task back that it runs, which is Ready again. It takes no memory.
     pub fn give_back(&mut self, w: u32)
         requires worker { w < self.old.workers }
