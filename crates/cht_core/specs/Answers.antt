@@ -65,9 +65,9 @@ module _ {C K : Type 0} (lib : Meanings C K) (arity : C → ℕ) (before after :
     pub nothing_asked : has_ask (state lib before).asks caller ≡ false → after ≡ before
     pub stopped_already : is_stopped (state lib before).graph caller ≡ true → after ≡ before
 
-  -- A start: a worker that begins a task is told of it, and that is an event; a task whose status is not Ready is not begun; and for want
-  -- of memory none is. Nothing changes in these two cases.
+  -- A start: a worker that begins a task is told of it, and that is an event; the status of a task is answered exactly where it is not
+  -- Ready; and a ready task may not be begun for want of memory. Nothing changes in these two cases.
   abbrev pub IsStarted : {L : Type 0} → ℕ → ℕ → Start L C K → Type 0
   IsStarted worker task (start.Started told) = Happens lib arity before after (StartEvent worker task) × IsToldOf lib (state lib before) task told
   IsStarted worker task (start.NotReady other) = (other ≡ status (state lib before).graph task) × (other ≢ Ready) × (after ≡ before)
-  IsStarted worker task start.Memory = after ≡ before
+  IsStarted worker task start.Memory = (status (state lib before).graph task ≡ Ready) × (after ≡ before)

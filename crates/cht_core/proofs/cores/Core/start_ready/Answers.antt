@@ -1,9 +1,9 @@
-use Rattle.std.proofs.Common.{◌≡◌, Ok, sym, ap, ◌∙◌}
+use Rattle.std.proofs.Common.{◌≡◌, Ok, refl, sym, ap, ◌∙◌}
 use Rattle.task_states.specs.States.{status}
 use Rattle.core_state.specs.Contents.{Contents}
 use Rattle.cht_core.proofs.Calls.{start_called, idle_now}
 use Rattle.cht_core.proofs.FinishAllowed.{idle_runs_nothing}
-use Rattle.cht_core.proofs.StartCalls.{told_of}
+use Rattle.cht_core.proofs.StartCalls.{status_now, told_of}
 use Rattle.cht_core.proofs.cores.Core.start_ready.Goals as goal
 
 pub start-requires-clause-idle : goal.start-requires-clause-idle
@@ -25,3 +25,13 @@ returns g c =
           c.self.inside.kept c.args.self.now c.start.new.self c.self.view_is c.self.invariant {E = Unit {0}} (Ok tt) c.args.w c.args.task c.requires.idle ready c.in-Ok-start.ensures.event tt).happens,
       told_of g.L.Library.meanings c.self.inside.kept c.args.self.now c.self.view_is c.self.invariant.facts c.args.task c.kind-kind.result c.in-Ok.inputs ready c.kind-kind.ensures c.in-Ok.ensures,
     )
+
+pub returns-in_default : goal.returns-in_default
+returns-in_default g c =
+    let ready = ap (λ (core : Contents g.row.L-Chunk.Denot g.row.L-Kind.Denot). status core.control.graph c.args.task) c.self.view_is ∙ c.requires.ready in
+    (sym (status_now g.L.Library.meanings c.self.inside.kept c.args.self.now c.self.view_is c.args.task) ∙ ready, refl)
+
+pub returns-in_default-start : goal.returns-in_default-start
+returns-in_default-start g c =
+    let ready = ap (λ (core : Contents g.row.L-Chunk.Denot g.row.L-Kind.Denot). status core.control.graph c.args.task) c.self.view_is ∙ c.requires.ready in
+    (sym (status_now g.L.Library.meanings c.self.inside.kept c.args.self.now c.self.view_is c.args.task) ∙ ready, c.in_default-start.ensures.unchanged ∙ c.self.view_is)
