@@ -1,25 +1,18 @@
 -- When each answer comes, and what it leaves.
-use Rattle.std.specs.Prelude.{◌≡◌, ◌≢◌, ℕ, true, false, None, Some}
+use Rattle.std.specs.Prelude.{◌≡◌, ℕ, true, false, None, Some}
 use Rattle.std.specs.FinMap as map
 use Rattle.task_types.specs.Tree.{Tree}
 use Rattle.task_types.specs.Meanings.{Meanings}
-use Rattle.task_types.specs.Shown.{Shows}
-use Rattle.task_states.specs.declared.states.TaskStatus.TheVariants.{Ready}
-use Rattle.task_states.specs.States.{Unfinished, task_at, status, is_stopped}
+use Rattle.task_states.specs.States.{is_stopped}
 use Rattle.task_states.specs.Awaiters.{IsLeastOf, IsRunnable, IsWanted}
-use Rattle.cht_history.specs.declared.event.Event.TheVariants.{Collect as CollectEvent, Stop as StopEvent, Start as StartEvent}
+use Rattle.cht_history.specs.declared.event.Event.TheVariants.{Collect as CollectEvent, Stop as StopEvent}
 use Rattle.name_machine.specs.States.{Machine, Ask, has_ask}
-use Rattle.name_machine.specs.Steps.{input_trees}
 use Rattle.core_state.specs.Contents.{Contents}
 use Rattle.cht_core.specs.declared.answers.Collected.{Collected}
 use Rattle.cht_core.specs.declared.answers.Collected.TheVariants as collected
 use Rattle.cht_core.specs.declared.answers.Idle.{Idle}
 use Rattle.cht_core.specs.declared.answers.Idle.TheVariants as idle
-use Rattle.cht_core.specs.declared.answers.Start.{Start}
-use Rattle.cht_core.specs.declared.answers.Start.TheVariants as start
-use Rattle.cht_core.specs.declared.answers.Started.{Started}
 use Rattle.cht_core.specs.Events.{state, Happens}
-use Rattle.cht_core.specs.Granted.{AreOwn, inputs_granted}
 
 module _ {C K : Type 0} where
   -- What there is to do in a state: nothing where no unfinished task has a caller that is not stopped; else the least of their tasks that
@@ -39,17 +32,6 @@ module _ {C K : Type 0} where
   abbrev pub IsNotDelivered : Machine C K → ℕ → Type 0
   IsNotDelivered machine task = (ask : Ask (Tree C) (Tree C)) → map.get machine.asks task ≡ Some ask → ask.delivered ≡ None
 
-  -- What a worker is told of an unfinished task that it begins: its kind, and its inputs, each null or of the worker's own store, which
-  -- show the trees of the task. The task's goal is defined on them.
-  pub record IsToldOf {L : Type 0} (lib : Meanings C K) (machine : Machine C K) (task : ℕ) (told : Started L C K) : Type 0 where
-    pub same_task : told.task ≡ task
-    pub unfinished : Unfinished (Tree C) K
-    pub there : task_at machine.graph task ≡ Some unfinished
-    pub kind_is : told.kind ≡ unfinished.kind
-    pub own : AreOwn told.inputs
-    pub shows : Shows (inputs_granted told.inputs) (input_trees unfinished)
-    pub defined : lib.defined unfinished.kind (input_trees unfinished)
-
 module _ {C K : Type 0} (lib : Meanings C K) (arity : C → ℕ) (before after : Contents C K) where
   -- A collect: what is got is an event; there is nothing yet exactly where the output is not there and the caller is not stopped; and a
   -- caller that is stopped gets nothing. Nothing changes in these two cases.
@@ -64,10 +46,3 @@ module _ {C K : Type 0} (lib : Meanings C K) (arity : C → ℕ) (before after :
     pub stops : has_ask (state lib before).asks caller ≡ true → is_stopped (state lib before).graph caller ≡ false → Happens lib arity before after (StopEvent caller)
     pub nothing_asked : has_ask (state lib before).asks caller ≡ false → after ≡ before
     pub stopped_already : is_stopped (state lib before).graph caller ≡ true → after ≡ before
-
-  -- A start: a worker that begins a task is told of it, and that is an event; the status of a task is answered exactly where it is not
-  -- Ready; and a ready task may not be begun for want of memory. Nothing changes in these two cases.
-  abbrev pub IsStarted : {L : Type 0} → ℕ → ℕ → Start L C K → Type 0
-  IsStarted worker task (start.Started told) = Happens lib arity before after (StartEvent worker task) × IsToldOf lib (state lib before) task told
-  IsStarted worker task (start.NotReady other) = (other ≡ status (state lib before).graph task) × (other ≢ Ready) × (after ≡ before)
-  IsStarted worker task start.Memory = (status (state lib before).graph task ≡ Ready) × (after ≡ before)

@@ -4,7 +4,8 @@ ghost use Rattle.task_states.specs.declared.states.TaskStatus.TheVariants.{Ready
 ghost use Rattle.task_states.specs.States.{status as status_at};
 ghost use Rattle.name_machine.specs.States.{Runs as RunsIn, IsIdle as IsIdleIn};
 ghost use Rattle.cht_core.specs.Events.{state, Happens};
-ghost use Rattle.cht_core.specs.Answers.{IsToDo, IsStarted};
+ghost use Rattle.cht_core.specs.Answers.{IsToDo};
+ghost use Rattle.cht_core.specs.Started.{IsStarted};
 
 use crate::answers::{Idle, Start, Started};
 use crate::cores::Core;

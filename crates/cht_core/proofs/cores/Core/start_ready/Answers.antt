@@ -3,7 +3,7 @@ use Rattle.task_states.specs.States.{status}
 use Rattle.core_state.specs.Contents.{Contents}
 use Rattle.cht_core.proofs.Calls.{start_called, idle_now}
 use Rattle.cht_core.proofs.FinishAllowed.{idle_runs_nothing}
-use Rattle.cht_core.proofs.StartCalls.{status_now, told_of}
+use Rattle.cht_core.proofs.StartCalls.{status_now, begun}
 use Rattle.cht_core.proofs.cores.Core.start_ready.Goals as goal
 
 pub start-requires-clause-idle : goal.start-requires-clause-idle
@@ -20,11 +20,11 @@ invariant_of-self-2 g c =
 
 pub returns : goal.returns
 returns g c =
-    let ready = ap (λ (core : Contents g.row.L-Chunk.Denot g.row.L-Kind.Denot). status core.control.graph c.args.task) c.self.view_is ∙ c.requires.ready in (
-      (start_called g.L.Library.meanings g.L.Chunk.Payload.arity g.L.Kind.Kinds.name_of g.L.Kind.Kinds.height_of g.met.L.Library.adds_up
-          c.self.inside.kept c.args.self.now c.start.new.self c.self.view_is c.self.invariant {E = Unit {0}} (Ok tt) c.args.w c.args.task c.requires.idle ready c.in-Ok-start.ensures.event tt).happens,
-      told_of g.L.Library.meanings c.self.inside.kept c.args.self.now c.self.view_is c.self.invariant.facts c.args.task c.kind-kind.result c.in-Ok.inputs ready c.kind-kind.ensures c.in-Ok.ensures,
-    )
+    let ready = ap (λ (core : Contents g.row.L-Chunk.Denot g.row.L-Kind.Denot). status core.control.graph c.args.task) c.self.view_is ∙ c.requires.ready in
+    begun g.L.Library.meanings g.L.Chunk.Payload.arity c.self.inside.kept c.args.self.now c.start.new.self c.self.view_is c.self.invariant.facts c.args.w c.args.task c.kind-kind.result c.in-Ok.inputs
+    ready c.kind-kind.ensures c.in-Ok.ensures
+    (start_called g.L.Library.meanings g.L.Chunk.Payload.arity g.L.Kind.Kinds.name_of g.L.Kind.Kinds.height_of g.met.L.Library.adds_up
+    c.self.inside.kept c.args.self.now c.start.new.self c.self.view_is c.self.invariant {E = Unit {0}} (Ok tt) c.args.w c.args.task c.requires.idle ready c.in-Ok-start.ensures.event tt).happens
 
 pub returns-in_default : goal.returns-in_default
 returns-in_default g c =
