@@ -1,6 +1,7 @@
 mod AskCalls
 mod Calls
 mod FinishAllowed
+mod FinishCalls
 mod Found
 mod Happened
 mod InputTrees
