@@ -1,5 +1,5 @@
 -- What a finish answers.
-use Rattle.std.proofs.Common.{◌≡◌, ℕ, ◌↔◌, List, Some, Result, Ok, Err, IfOk, OnOk, OnErr, sym, ap, subst, ◌∙◌}
+use Rattle.std.proofs.Common.{◌≡◌, ℕ, List, Some, Result, Ok, Err, IfOk, OnOk, OnErr, sym, ap, subst, ◌∙◌}
 use Rattle.cht_ids.specs.declared.refs.Ref.{Ref}
 use Rattle.task_types.specs.declared.outcome.Outcome.{Outcome}
 use Rattle.task_types.specs.Tree.{Tree}
@@ -10,14 +10,13 @@ use Rattle.name_states.proofs.Basics.{same_some}
 use Rattle.task_states.specs.States.{Unfinished, Graph, task_at, status}
 use Rattle.name_machine.specs.States.{Runs}
 use Rattle.name_machine.specs.Steps.{input_trees}
-use Rattle.name_machine.specs.Standing.{graph_shown}
 use Rattle.name_machine.proofs.Stand.{status_shown}
 use Rattle.core_steps.specs.Begin.{CanFinish}
 use Rattle.core_steps.specs.Conditions.{RunsTask, bodies_of, finish_of}
 use Rattle.core_steps.specs.NewlyReady.{AreNewlyReady}
 use Rattle.core_state.specs.Contents.{Contents, after_event}
 use Rattle.cht_core.specs.Events.{state, Happens}
-use Rattle.cht_core.proofs.Calls.{IsCore, Called, finish_fits, finish_called}
+use Rattle.cht_core.proofs.Calls.{ok_to, IsCore, Called, finish_fits, finish_called}
 use Rattle.cht_core.proofs.FinishAllowed.{runs_task}
 use Rattle.cht_core.proofs.ToDo.{same_run}
 use Rattle.cht_core.proofs.Together.{hangs_together}
@@ -26,10 +25,6 @@ use Rattle.cht_core.proofs.Together.{hangs_together}
 at_run : {A E : Type 0} (R Q : ℕ → Type 0) (result : Result A E) (task : ℕ) → R task → IfOk result (λ x. (task : ℕ) → R task → Q task) → OnOk result (Q task)
 at_run R Q (Ok x) task runs each = each task runs
 at_run R Q (Err e) task runs each = tt
-
-ok_more : {A E : Type 0} (P Q : A → Type 0) (result : Result A E) → ((x : A) → P x → Q x) → IfOk result P → IfOk result Q
-ok_more P Q (Ok x) to p = to x p
-ok_more P Q (Err e) to p = tt
 
 module _ {C K : Type 0} (lib : Meanings C K) (arity : C → ℕ) where
   -- a worker runs a task, and an outcome is sound for it
@@ -73,7 +68,7 @@ module _ {C K : Type 0} (lib : Meanings C K) (arity : C → ℕ) where
         → OnErr result (after ≡ before)
         → IfOk result (λ x. (task : ℕ) → Runs (state lib now) worker task → Happens lib arity now after (finish_of worker task outcome))
     finish_happens {A} result event unchanged =
-        ok_more (λ (x : A). Happens lib arity now after (finish_of worker run.0 outcome)) (λ x. (task : ℕ) → Runs (state lib now) worker task → Happens lib arity now after (finish_of worker task outcome))
+        ok_to (λ (x : A). Happens lib arity now after (finish_of worker run.0 outcome)) (λ x. (task : ℕ) → Runs (state lib now) worker task → Happens lib arity now after (finish_of worker task outcome))
         result
         (λ x happens task runs.
         subst (λ task. Happens lib arity now after (finish_of worker task outcome))
@@ -95,7 +90,7 @@ newly_shown before after one other first second ready newly = record {
 pub newly_ready : {C K E : Type 0} (lib : Meanings C K) (before now after : Contents C K) → before ≡ now → (result : Result (List ℕ) E)
     → IfOk result (AreNewlyReady before.control.graph after.control.graph) → IfOk result (AreNewlyReady (state lib now).graph (state lib after).graph)
 newly_ready {C} {K} lib before now after view result =
-    ok_more (AreNewlyReady before.control.graph after.control.graph) (AreNewlyReady (state lib now).graph (state lib after).graph) result
+    ok_to (AreNewlyReady before.control.graph after.control.graph) (AreNewlyReady (state lib now).graph (state lib after).graph) result
     (newly_shown before.control.graph after.control.graph (state lib now).graph (state lib after).graph
     (λ q. ap (λ (core : Contents C K). status (state lib core).graph q) (sym view) ∙ status_shown before.control.names before.control.graph q)
     (status_shown after.control.names after.control.graph))

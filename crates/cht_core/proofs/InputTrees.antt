@@ -9,7 +9,7 @@ use Rattle.task_types.specs.Meanings.{Meanings}
 use Rattle.task_types.specs.Sound.{HasFewInputs}
 use Rattle.name_states.specs.States.{NameState, IsLiveRef}
 use Rattle.name_states.specs.declared.holder.Holder.TheVariants.{Task}
-use Rattle.task_states.specs.States.{Input, Known, Awaits, Unfinished, task_at, input_at}
+use Rattle.task_states.specs.States.{Input, Known, Unfinished, task_at, input_at}
 use Rattle.task_states.specs.declared.states.Slot.{Slot}
 use Rattle.task_graph.specs.Contents.{input_of}
 use Rattle.name_machine.specs.Steps.{tree_known, input_trees}
@@ -19,7 +19,7 @@ use Rattle.name_machine.specs.Standing.{input_shown, IsOrderly}
 use Rattle.name_machine.proofs.Ends.{inputs_at}
 use Rattle.name_machine.proofs.Orderly.{ref_is_live}
 use Rattle.core_state.specs.Contents.{Contents}
-use Rattle.cht_core.specs.Events.{state, Stands}
+use Rattle.cht_core.specs.Events.{state}
 use Rattle.cht_core.specs.Granted.{IsOwn, view_granted, own_of, IsGrantedOwn}
 use Rattle.cht_core.specs.declared.grants.Grant.{Grant}
 use Rattle.cht_core.specs.declared.grants.Grants.{Grants}
@@ -69,8 +69,7 @@ module _ {C : Type 0} where
       let one = is_shown (tree_at trees 0) grants.first first in
       let two = is_shown (tree_at trees 1) grants.second second in
       let three = is_shown (tree_at trees 2) grants.third third in
-      let four = is_shown (tree_at trees 3) grants.fourth fourth in
-      (
+      let four = is_shown (tree_at trees 3) grants.fourth fourth in (
         (is_own (tree_at trees 0) grants.first first, is_own (tree_at trees 1) grants.second second, is_own (tree_at trees 2) grants.third third, is_own (tree_at trees 3) grants.fourth fourth),
         (count, (λ i. take (count i) (one i ∷ two i ∷ three i ∷ four i ∷ [])) ∙ views_are trees few),
       )

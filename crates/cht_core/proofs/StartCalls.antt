@@ -1,10 +1,9 @@
 -- What a start answers.
-use Rattle.std.proofs.Common.{◌≡◌, ◌≢◌, ℕ, List, Some, refl, sym, ap, subst, ◌∙◌}
+use Rattle.std.proofs.Common.{◌≡◌, ℕ, Some, refl, sym, ap, subst, ◌∙◌}
 use Rattle.std.specs.Option.{option_map}
 use Rattle.cht_ids.specs.declared.refs.Ref.{Ref}
 use Rattle.task_types.specs.Tree.{Tree}
 use Rattle.task_types.specs.Meanings.{Meanings}
-use Rattle.task_states.specs.declared.states.TaskStatus.{TaskStatus}
 use Rattle.task_states.specs.declared.states.TaskStatus.TheVariants.{Ready, Waiting}
 use Rattle.task_states.specs.States.{Unfinished, task_at, status, kind_of}
 use Rattle.task_states.proofs.Awaited.{awaits_nothing}
@@ -13,7 +12,7 @@ use Rattle.name_machine.specs.States.{Machine}
 use Rattle.name_machine.specs.Steps.{input_trees}
 use Rattle.name_machine.specs.Goals.{goal_of}
 use Rattle.name_machine.specs.Facts.{HoldsTogether}
-use Rattle.name_machine.specs.Standing.{task_shown, machine_of}
+use Rattle.name_machine.specs.Standing.{task_shown}
 use Rattle.name_machine.proofs.Ends.{inputs_at}
 use Rattle.name_machine.proofs.Invariant.{known_trees}
 use Rattle.name_machine.proofs.Stand.{shown_at, status_shown}

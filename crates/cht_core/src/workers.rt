@@ -20,8 +20,8 @@ use task_types::laws::plans_decided;
 use task_types::{Library, Outcome};
 
 impl<L: Library> Core<L> {
-    /// A worker that runs nothing begins a task, where it is Ready. It gets the task's kind, and the content of each input that is not
-    /// null with the mask of the children that are there.
+    /// A worker that runs nothing begins a task, where it is Ready. It gets the task's kind, and of each input that is not null the content,
+    /// which is the owner's object, and the mask of the children that are there.
     pub fn start(&mut self, w: u32, task: TaskNo) -> Start<L>
         requires worker { w < self.old.workers }
         requires idle { IsIdleIn (state L.meanings self.old) w }

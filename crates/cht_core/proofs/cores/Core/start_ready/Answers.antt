@@ -1,4 +1,4 @@
-use Rattle.std.proofs.Common.{◌≡◌, Ok, refl, sym, ap, ◌∙◌}
+use Rattle.std.proofs.Common.{Ok, refl, sym, ap, ◌∙◌}
 use Rattle.task_states.specs.States.{status}
 use Rattle.core_state.specs.Contents.{Contents}
 use Rattle.cht_core.proofs.Calls.{start_called, idle_now}
