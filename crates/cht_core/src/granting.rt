@@ -114,12 +114,17 @@ impl<L: Library> Core<L> {
         ensures { (unfinished : Unfinished (Tree L.Chunk) L.Kind) → task_at (state L.meanings self.now).graph task ≡ Some unfinished
             → IfOk result (IsGrantedOwn (input_trees unfinished)) }
     {
+        let count = self.input_count(task);
+        let first = self.grant_at(task, 0)?;
+        let second = self.grant_at(task, 1)?;
+        let third = self.grant_at(task, 2)?;
+        let fourth = self.grant_at(task, 3)?;
         Ok(Grants {
-            count: self.input_count(task),
-            first: self.grant_at(task, 0)?,
-            second: self.grant_at(task, 1)?,
-            third: self.grant_at(task, 2)?,
-            fourth: self.grant_at(task, 3)?,
+            count,
+            first,
+            second,
+            third,
+            fourth,
         })
     }
 }

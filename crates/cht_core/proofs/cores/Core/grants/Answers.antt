@@ -7,6 +7,6 @@ pub returns : goal.returns
 returns g c =
     λ t there.
     granted_own (input_trees t)
-    (record { count = c.input_count.result; first = c.in_ok-grant_at.field-0; second = c.in_ok-grant_at-2.field-0; third = c.in_ok-grant_at-3.field-0; fourth = c.in_ok-grant_at-4.field-0 })
-    ((c.input_count.ensures t there).0 ∙ sym (many_trees t)) (subst (λ n. n ≤ 4) (sym (many_trees t)) (c.input_count.ensures t there).1)
-    (c.in_ok-grant_at.ensures t there) (c.in_ok-grant_at-2.ensures t there) (c.in_ok-grant_at-3.ensures t there) (c.in_ok-grant_at-4.ensures t there)
+    (record { count = c.input_count-count.result; first = c.in_ok-first.first; second = c.in_ok-second.second; third = c.in_ok-third.third; fourth = c.in_ok-fourth.fourth })
+    ((c.input_count-count.ensures t there).0 ∙ sym (many_trees t)) (subst (λ n. n ≤ 4) (sym (many_trees t)) (c.input_count-count.ensures t there).1)
+    (c.in_ok-first.ensures t there) (c.in_ok-second.ensures t there) (c.in_ok-third.ensures t there) (c.in_ok-fourth.ensures t there)
