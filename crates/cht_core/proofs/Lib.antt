@@ -1,5 +1,6 @@
 mod AskCalls
 mod Calls
+pub mod Executions
 mod FinishAllowed
 mod FinishCalls
 mod Found
