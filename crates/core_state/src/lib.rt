@@ -5,6 +5,7 @@
 mod abandoning;
 mod asked;
 mod asks;
+mod finish;
 mod inputs;
 mod names;
 mod rows;

@@ -3,3 +3,4 @@ pub mod Begin
 pub mod Registrable
 pub mod Delivered
 pub mod NewTasks
+pub mod NewlyReady
