@@ -1,5 +1,5 @@
 -- What an abandon answers.
-use Rattle.std.proofs.Common.{◌≡◌, ℕ, suc, ◌≤◌, Bool, true, false, cond, not, ◌&&◌, nat_eq, nat_cmp, List, [], ◌∷◌, length, Option, None, Some, is_some, refl, sym, ap, subst, ◌∙◌}
+use Rattle.std.proofs.Common.{◌≡◌, ℕ, suc, Bool, true, false, cond, not, ◌&&◌, nat_eq, nat_cmp, List, [], ◌∷◌, length, Option, None, Some, is_some, refl, sym, ap, subst, ◌∙◌}
 use Rattle.std.specs.Cmp.{nat_cmp_total, unsigned_tied}
 use Rattle.std.specs.Option.{option_map, option_and_then}
 use Rattle.std.specs.FinMap as map
@@ -18,18 +18,17 @@ use Rattle.task_states.specs.States.{Unfinished, Graph, task_at, caller_of, is_r
 use Rattle.task_states.specs.Steps.{abandoned}
 use Rattle.task_states.proofs.Maps.{same_maps, get-kept}
 use Rattle.cht_history.specs.declared.event.Event.TheVariants.{Abandon}
-use Rattle.name_machine.specs.States.{Machine, Ask, is_of, has_ask}
+use Rattle.name_machine.specs.States.{Machine, is_of, has_ask}
 use Rattle.name_machine.specs.Steps.{gave_up}
-use Rattle.name_machine.specs.Control.{Control}
 use Rattle.name_machine.specs.Facts.{HoldsTogether}
-use Rattle.name_machine.specs.Standing.{task_shown, graph_shown, machine_of}
+use Rattle.name_machine.specs.Standing.{task_shown, graph_shown}
 use Rattle.name_machine.proofs.Grow.{false_or}
 use Rattle.name_machine.proofs.Leaving.{task_was, left, ask_was}
 use Rattle.name_machine.proofs.Stand.{shown_at, awaiting_shown, ask_shown_has}
 use Rattle.name_machine.proofs.Tasks.{mapped_from}
 use Rattle.name_machine.proofs.Values.{any_to}
 use Rattle.core_state.specs.Contents.{Contents, after_event}
-use Rattle.cht_core.specs.Events.{state, Happens}
+use Rattle.cht_core.specs.Events.{state}
 use Rattle.cht_core.specs.Answers.{HasNothingOpen, IsGone}
 use Rattle.cht_core.proofs.AskCalls.{true_not_false}
 use Rattle.cht_core.proofs.Calls.{IsCore, abandon_made}

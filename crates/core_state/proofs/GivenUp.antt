@@ -9,14 +9,14 @@ use Rattle.cht_ids.specs.declared.refs.Ref.{Ref}
 use Rattle.chunk_refs.specs.Room.{Contents as Names}
 use Rattle.name_states.specs.declared.holder.Holder.{Holder}
 use Rattle.name_states.specs.declared.holder.Holder.TheVariants.{Caller as ByCaller, Task as ByTask, Body as ByBody}
-use Rattle.name_states.specs.States.{NameState, IdRecord, id_at}
+use Rattle.name_states.specs.States.{NameState}
 use Rattle.name_states.specs.Reached.{swept}
 use Rattle.name_states.proofs.Basics.{none_not_some, same_from_test, test_same, test_apart}
 use Rattle.name_states.proofs.Reaching.{sound-down}
 use Rattle.task_states.specs.declared.states.TaskStatus.{TaskStatus}
 use Rattle.task_states.specs.declared.states.TaskStatus.TheVariants.{Unknown, Running}
 use Rattle.task_states.specs.Maps.{kept}
-use Rattle.task_states.specs.States.{Unfinished, Graph, task_at, caller_of, is_running, status_of, is_run_for, running, is_stopped}
+use Rattle.task_states.specs.States.{Unfinished, Graph, task_at, is_running, status_of, is_run_for, running, is_stopped}
 use Rattle.task_states.specs.Steps.{abandoned}
 use Rattle.task_states.proofs.Maps.{get-kept}
 use Rattle.cht_history.specs.History.{History}
@@ -30,7 +30,7 @@ use Rattle.name_machine.proofs.Leaving.{task_was, task_stays, left, ask_was, ask
 use Rattle.name_machine.proofs.Values.{any_to}
 use Rattle.core_steps.specs.Conditions.{HangsTogether}
 use Rattle.core_state.specs.AskTable.{AskTable}
-use Rattle.core_state.specs.Contents.{Contents, after_event}
+use Rattle.core_state.specs.Contents.{after_event}
 use Rattle.core_state.specs.Ended.{is_task_for, is_held_for, is_output_by, is_output_for, HoldsFrom, HoldsOutputs}
 use Rattle.core_state.specs.Needed.{due_for_id, due_for_ask, due_for_caller, total_by, total_below}
 use Rattle.core_state.specs.Inside.{contents_of, AreRun, IsKept}
@@ -105,11 +105,12 @@ module _ {C K : Type 0} (arity : C → ℕ) (control : Control C (Unit {0}) K) (
       subst (λ n. HoldsOutputs n control.asks caller) (sym is)
       (record {
         outputs = λ task ask r there own delivered.
-            let out = orderly.held.outputs task ask r there delivered in
-            (still_ref control.names (is_held_for control.graph caller) (ByCaller caller) r (sound-down arity control.names orderly.sound) tt
-            (subst (λ n. IsRefOf control.names (ByCaller n) r) own out.0)
-            (λ id entry r_is found held. ap (is_task_for control.graph caller) held),
-            out.1);
+            let out = orderly.held.outputs task ask r there delivered in (
+              still_ref control.names (is_held_for control.graph caller) (ByCaller caller) r (sound-down arity control.names orderly.sound) tt
+                  (subst (λ n. IsRefOf control.names (ByCaller n) r) own out.0)
+                  (λ id entry r_is found held. ap (is_task_for control.graph caller) held),
+              out.1,
+            );
         free = λ task ask there own none. still_none control.names (is_held_for control.graph caller) ask.number (orderly.aside.outputs task ask there none);
         differ = λ key other one two first second mine theirs same. together.outputs_differ key other one two first second same;
       })
@@ -174,13 +175,14 @@ module _ {C K : Type 0} (drawn : ℕ) (names : Names C) (table : AskTable) (grap
     run_left idle together = record {
       runner = λ task worker u is runs. is_kept.run.runner task worker u (task_was graph caller task u is).0 runs;
       task = λ worker task is.
-          let old = is_kept.run.task worker task is in
-          (old.0,
-          task_stays graph caller task old.0 old.1 (λ own.
-          run_by_other graph caller idle task old.0 old.1
-          (sym (ap (λ (o : Option (Unfinished Ref K)). elim o as (λ x. TaskStatus) [ None ↦ Unknown | Some u ↦ status_of u ]) old.1)
-          ∙ running_is graph task worker old.0 old.1 old.2 (λ awaited awaits. together.runs worker task awaited old.0 old.1 old.2 awaits)) own),
-          old.2);
+          let old = is_kept.run.task worker task is in (
+            old.0,
+            task_stays graph caller task old.0 old.1 (λ own.
+                run_by_other graph caller idle task old.0 old.1
+                (sym (ap (λ (o : Option (Unfinished Ref K)). elim o as (λ x. TaskStatus) [ None ↦ Unknown | Some u ↦ status_of u ]) old.1)
+                ∙ running_is graph task worker old.0 old.1 old.2 (λ awaited awaits. together.runs worker task awaited old.0 old.1 old.2 awaits)) own),
+            old.2,
+          );
     }
 
     pub abandoned_kept : (names2 : Names C) (table2 : AskTable) (graph2 : Graph Ref K) (history2 : History K) (owed2 : ℕ)

@@ -1,4 +1,4 @@
-use Rattle.std.proofs.Common.{◌≡◌, ◌≤◌, ◌<◌, ◌-◌, ◌+◌, cond, sym, ap, subst, refl, ◌∙◌, arith, true}
+use Rattle.std.proofs.Common.{◌≡◌, ◌≤◌, ◌<◌, ◌-◌, cond, sym, subst, refl, ◌∙◌, arith, true}
 use Rattle.task_states.specs.States.{running}
 use Rattle.name_machine.specs.States.{has_ask}
 use Rattle.name_machine.specs.Standing.{IsOrderly}
@@ -43,8 +43,8 @@ push_reserved-requires g c =
     let within : c.args.c < state.callers = rw (← c.self.view_is) at c.requires.caller in
     let has : has_ask state.asks.asks c.args.c ≡ true = rw (← c.self.view_is) at c.requires.asked in
     let one = one_owed state.counter state.names state.asks state.graph.graph state.journal state.callers state.running.items state.owed c.self.invariant c.args.c within has
-        c.is_stopped.result (sym c.is_stopped.ensures) c.end_tasks.new.names.names c.end_asks-left.new.names.names c.end_asks-left.new.asks.asks c.end_asks-left.result
-        c.end_tasks.ensures.names c.end_asks-left.ensures.asks c.end_asks-left.ensures.owed in
+    c.is_stopped.result (sym c.is_stopped.ensures) c.end_tasks.new.names.names c.end_asks-left.new.names.names c.end_asks-left.new.asks.asks c.end_asks-left.result
+    c.end_tasks.ensures.names c.end_asks-left.ensures.asks c.end_asks-left.ensures.owed in
     let room = c.self.invariant.room in
     omega arith
 
@@ -56,8 +56,8 @@ invariant_of-self g c =
     let idle : running state.graph.graph c.args.c ≡ 0 = rw (← c.self.view_is) at c.requires.idle in
     let together = subst (λ (v : Contents g.row.C.Denot g.row.K.Denot). HangsTogether v.control) (sym c.self.view_is) c.requires.together in
     let low = owed_for_abandon state.counter state.names state.asks state.graph.graph state.journal state.callers state.running.items state.owed c.self.invariant c.args.c within has
-        c.is_stopped.result (sym c.is_stopped.ensures) c.end_tasks.new.names.names c.end_asks-left.new.names.names c.end_asks-left.new.asks.asks c.end_asks-left.result
-        c.end_tasks.ensures.names c.end_asks-left.ensures.asks c.end_asks-left.ensures.owed in
+    c.is_stopped.result (sym c.is_stopped.ensures) c.end_tasks.new.names.names c.end_asks-left.new.names.names c.end_asks-left.new.asks.asks c.end_asks-left.result
+    c.end_tasks.ensures.names c.end_asks-left.ensures.asks c.end_asks-left.ensures.owed in
     let due : c.due_for_abandon-due.result ≡ cond c.is_stopped.result 1 2 = c.due_for_abandon-due.ensures in
     abandoned_kept state.counter state.names state.asks state.graph.graph state.journal state.callers state.running.items state.owed c.self.invariant c.args.c within has
     c.is_stopped.result (sym c.is_stopped.ensures) c.end_tasks.new.names.names c.end_asks-left.new.names.names c.end_asks-left.new.asks.asks c.end_asks-left.result
