@@ -2,6 +2,8 @@
 //! hands on what is awaited, and ends the task with what it holds.
 #![tactic(auto)]
 
+mod ending;
 mod inputs;
 
+pub use ending::{end_task, list_ready};
 pub use inputs::hold_input;
