@@ -38,14 +38,14 @@ number_there (r ∷ refs) zero id is = first r (same_some r (Held id) is)
 number_there (Null ∷ refs) (suc place) id is = number_there refs place id is
 number_there (Held other ∷ refs) (suc place) id is = inr (number_there refs place id is)
 
-number_from : (q : ℕ) (refs : List Ref) → IsIn q (numbers_of refs) → (place : ℕ) × (id : Id) × (slice_get refs place ≡ Some (Held id)) × (id.number ≡ q)
+pub number_from : (q : ℕ) (refs : List Ref) → IsIn q (numbers_of refs) → (place : ℕ) × (id : Id) × (slice_get refs place ≡ Some (Held id)) × (id.number ≡ q)
 number_from q [] among = absurd among
 number_from q (Null ∷ refs) among = let rest = number_from q refs among in (suc rest.0, rest.1, rest.2, rest.3)
 number_from q (Held id ∷ refs) (inl here) = (0, id, refl, sym here)
 number_from q (Held id ∷ refs) (inr among) = let rest = number_from q refs among in (suc rest.0, rest.1, rest.2, rest.3)
 
 -- who holds an identifier
-held_at : {C : Type 0} (names : NameState C) (id : Id) (holder : Holder) (found : _) → record_of names id ≡ found → holder_of names id ≡ Some holder
+pub held_at : {C : Type 0} (names : NameState C) (id : Id) (holder : Holder) (found : _) → record_of names id ≡ found → holder_of names id ≡ Some holder
     → (entry : IdRecord) × (record_of names id ≡ Some entry) × (entry.holder ≡ holder)
 held_at names id holder None is held = absurd (none_not_some (ap (option_map (λ (e : IdRecord). e.holder)) is) held)
 held_at names id holder (Some entry) is held =

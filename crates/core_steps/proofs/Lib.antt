@@ -1,1 +1,4 @@
 mod Endings
+mod Delivering
+pub mod Course
+pub mod Exact

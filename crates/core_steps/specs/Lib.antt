@@ -1,3 +1,5 @@
 pub mod Conditions
 pub mod Begin
 pub mod Ending
+pub mod Delivered
+pub mod NewlyReady

@@ -4,6 +4,8 @@
 
 mod ending;
 mod inputs;
+mod settling;
 
 pub use ending::{end_task, list_ready};
 pub use inputs::hold_input;
+pub use settling::{renumbered, settle};
