@@ -35,7 +35,7 @@ module _ {X : Type 0} where
 
   pub either_place : (xs ys : List X) (p : ℕ) (x : X) → slice_get (xs ++ ys) p ≡ Some x
       → (slice_get xs p ≡ Some x) ⊎ ((o : ℕ) × (p ≡ length xs + o) × (slice_get ys o ≡ Some x))
-  either_place [] ys p x is = inr (p, refl, is)
+  either_place [] ys p x is = inr (p, omega arith, is)
   either_place (y ∷ xs) ys zero x is = inl is
   either_place (y ∷ xs) ys (suc p) x is = elim (either_place xs ys p x is) [
     | inl first ↦ inl first

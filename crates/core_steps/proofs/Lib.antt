@@ -2,3 +2,5 @@ mod Endings
 mod Delivering
 pub mod Course
 pub mod Exact
+pub mod Handed
+pub mod Newly
