@@ -1,5 +1,5 @@
 -- One after another of those that await a task gets its copy, until nobody awaits it.
-use Rattle.std.proofs.Common.{◌≡◌, ℕ, ◌+◌, ◌≤◌, ◌⊎◌, inl, inr, true, false, nat_eq, List, [], ◌∷◌, ◌++◌, length, Option, None, Some, refl, sym, ap, subst, ◌∙◌, arith}
+use Rattle.std.proofs.Common.{◌≡◌, ℕ, ◌+◌, ◌≤◌, ◌⊎◌, inl, inr, false, nat_eq, List, [], ◌∷◌, ◌++◌, length, Option, None, Some, refl, sym, ap, subst, ◌∙◌, arith}
 use Rattle.std.specs.Prelude.{set}
 use Rattle.std.specs.Option.{option_map}
 use Rattle.std.specs.List.{Contains, IsDistinct, AllByRecursion}
@@ -18,7 +18,7 @@ use Rattle.task_states.specs.declared.states.Awaiter.TheVariants.{Input as AtInp
 use Rattle.task_states.specs.declared.states.TaskStatus.{TaskStatus}
 use Rattle.task_states.specs.declared.states.TaskStatus.TheVariants.{Unknown, Waiting, Ready, Running}
 use Rattle.task_states.specs.States.{Input, Known, Awaits, Unfinished, Graph, task_at, input_at, status, status_of, asked_of}
-use Rattle.task_states.specs.Steps.{with_task, without_asked, delivered, all_delivered}
+use Rattle.task_states.specs.Steps.{delivered, all_delivered}
 use Rattle.task_states.specs.Awaiters.{number_of, IsAsked, IsAwaiter, IsNotAwaited}
 use Rattle.task_states.specs.Listing.{awaiters}
 use Rattle.task_states.proofs.Maps.{same_or_not, test_apart}

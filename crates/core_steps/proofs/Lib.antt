@@ -4,3 +4,5 @@ pub mod Course
 pub mod Exact
 pub mod Handed
 pub mod Newly
+pub mod Awaited
+pub mod Resolved

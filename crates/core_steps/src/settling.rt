@@ -7,14 +7,14 @@ ghost use Rattle.name_states.specs.Rules.{AreWithin};
 ghost use Rattle.task_states.specs.declared.states.Awaiter.{Awaiter as AnyAwaiter};
 ghost use Rattle.task_states.specs.declared.states.TaskStatus.TheVariants.{Waiting as IsWaiting};
 ghost use Rattle.task_states.specs.States.{status, asked_of};
-ghost use Rattle.task_states.specs.Steps.{delivered, all_delivered};
-ghost use Rattle.task_states.specs.Awaiters.{number_of, IsAwaiter, IsLeastAwaiter};
+ghost use Rattle.task_states.specs.Steps.{all_delivered};
+ghost use Rattle.task_states.specs.Awaiters.{number_of, IsAwaiter, IsNotAwaited};
 ghost use Rattle.task_states.specs.Listing.{awaiters};
 ghost use Rattle.name_machine.specs.Control.{with_number, copy_of, copies_of, awaiting};
 ghost use Rattle.core_steps.specs.Delivered.{holder_for, asked_by, with_ready, AreSetApart, IsNowReady};
 
-use chunk_refs::Refs;
 use cht_ids::{Id, Ref, TaskNo};
+use chunk_refs::Refs;
 use name_states::Holder;
 use task_graph::Tasks;
 use task_states::{Awaiter, TaskStatus};
@@ -34,12 +34,7 @@ pub fn renumbered(r: Ref, number: u128) -> Ref
 }
 
 // A copy of what a reference names, under a number that is free; null for null.
-fn copy_to<C: Payload>(
-    names: &mut Refs<C>,
-    r: Ref,
-    holder: Holder,
-    number: u128,
-) -> Ref
+fn copy_to<C: Payload>(names: &mut Refs<C>, r: Ref, holder: Holder, number: u128) -> Ref
     requires holder { IsOutside holder }
     requires live { IsLiveRef names.old.names r }
     requires free { id_at names.old.names number ≡ None }
@@ -122,6 +117,7 @@ pub fn settle<C: Payload, K: Copy>(
     ensures names { names.new.names ≡ copies_of names.old.names r (awaiting graph.old.graph task) }
     ensures graph { graph.new.graph ≡ all_delivered graph.old.graph task (with_number r) }
     ensures asked { result ≡ asked_of graph.old.graph task }
+    ensures nobody { IsNotAwaited graph.new.graph task }
 
     // Among the tasks that are listed are those that were, and those that became Ready, each once.
     ensures ready { (q : ℕ) → Contains ready.new.items q ↔ (Contains ready.old.items q ⊎ IsNowReady graph.old.graph graph.new.graph q) }

@@ -1,9 +1,7 @@
-use Rattle.std.proofs.Common.{◌≡◌, ◌+◌, ◌∙◌, refl, subst, length, Some, arith}
-use Rattle.cht_ids.specs.declared.refs.Ref.{Ref}
+use Rattle.std.proofs.Common.{◌∙◌, refl, subst, arith}
 use Rattle.task_states.specs.Awaiters.{IsAwaiterFound}
 use Rattle.task_states.specs.Steps.{delivered}
-use Rattle.task_states.specs.Listing.{awaiters}
-use Rattle.core_steps.proofs.Delivering.{one_less, settling_step, settling_starts, names_settled, graph_settled, asked_settled}
+use Rattle.core_steps.proofs.Delivering.{one_less, settling_step, names_settled, graph_settled, asked_settled}
 use Rattle.core_steps.proofs.settling.settle.Goals as goal
 
 pub copy_for-copy-requires-clause-room : goal.copy_for-copy-requires-clause-room
@@ -21,8 +19,8 @@ list_if_ready-requires g c =
 pub loop-awaiter-smaller : goal.loop-awaiter-smaller
 loop-awaiter-smaller g c =
     let one =
-        one_less c.loop-awaiter.graph.graph c.deliver.new.self.graph c.args.task c.in-Some.awaiter c.copy_for-copy.result c.in-Some.ensures.awaits
-        (c.deliver.ensures.graph c.in-Some.awaiter c.in-Some.ensures) in
+    one_less c.loop-awaiter.graph.graph c.deliver.new.self.graph c.args.task c.in-Some.awaiter c.copy_for-copy.result c.in-Some.ensures.awaits
+    (c.deliver.ensures.graph c.in-Some.awaiter c.in-Some.ensures) in
     omega arith
 
 pub loop-awaiter-preserved : goal.loop-awaiter-preserved

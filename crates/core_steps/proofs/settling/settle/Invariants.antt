@@ -1,4 +1,4 @@
-use Rattle.std.proofs.Common.{ℕ, ◌+◌, ◌≤◌, length, vec_len, vec_capacity, ◌≡◌}
+use Rattle.std.proofs.Common.{◌+◌, ◌≤◌, length, vec_len, vec_capacity, ◌≡◌}
 use Rattle.task_states.specs.Listing.{awaiters}
 use Rattle.core_steps.proofs.Delivering.{IsSettling}
 use Rattle.core_steps.proofs.settling.settle.Given as goal
