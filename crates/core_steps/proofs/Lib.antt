@@ -1,3 +1,4 @@
+pub mod Places
 mod Endings
 mod Delivering
 pub mod Course
@@ -6,3 +7,4 @@ pub mod Handed
 pub mod Newly
 pub mod Awaited
 pub mod Resolved
+pub mod EndOfFinish

@@ -4,8 +4,10 @@
 
 mod ending;
 mod inputs;
+mod reading;
 mod settling;
 
 pub use ending::{end_task, list_ready};
 pub use inputs::hold_input;
+pub use reading::read_place;
 pub use settling::{renumbered, settle};
