@@ -1,4 +1,5 @@
 pub mod Places
+pub mod Registering
 mod Endings
 mod Delivering
 pub mod Course

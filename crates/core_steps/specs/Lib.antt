@@ -3,3 +3,4 @@ pub mod Begin
 pub mod Ending
 pub mod Delivered
 pub mod NewlyReady
+pub mod Registrable

@@ -2,11 +2,13 @@
 //! hands on what is awaited, and ends the task with what it holds.
 #![tactic(auto)]
 
+mod chunks;
 mod ending;
 mod inputs;
 mod reading;
 mod settling;
 
+pub use chunks::register_chunks;
 pub use ending::{end_task, list_ready};
 pub use inputs::hold_input;
 pub use reading::read_place;

@@ -2,12 +2,13 @@
 ghost use Rattle.std.specs.Prelude.{◌≡◌, length, slice_get};
 ghost use Rattle.std.specs.Option.{ForSome, option_copied};
 ghost use Rattle.cht_ids.specs.declared.refs.Ref.TheVariants.{Id as Held};
+ghost use Rattle.task_types.specs.Places.{places_of, place_at};
 ghost use Rattle.name_states.specs.States.{IsLive, IsLiveRef, AreLive, content_of, children_of};
 ghost use Rattle.name_machine.specs.Control.{ref_at, child_named, ref_named};
 
 use cht_ids::{Id, Ref};
 use chunk_refs::Refs;
-use task_types::{Payload, Place};
+use task_types::{Payload, Place, Places};
 
 // The reference at a place of a list, counted from 0, if there is one.
 fn get_ref(refs: &[Ref], i: usize) -> Option<&Ref>
@@ -23,6 +24,16 @@ fn nth_ref(refs: &[Ref], i: u8) -> Ref
     match get_ref(refs, i as usize) {
         None => Ref::Null,
         Some(r) => *r,
+    }
+}
+
+/// The place with a number, counted from 0; null past the last one.
+pub(crate) fn nth_place(places: &Places, i: u32) -> Place
+    ensures { result ≡ place_at (places_of places.now) i }
+{
+    match places.get(i) {
+        None => Place::Null,
+        Some(place) => place,
     }
 }
 
