@@ -5,3 +5,4 @@ pub mod Lists
 pub mod Asked
 pub mod Needed
 pub mod Inside
+pub mod Effect

@@ -259,13 +259,23 @@ module _ {K : Type 0} (before after : Graph Ref K) (task : ℕ) (f : Input Ref �
 
 -- where the output is handed to another task nothing becomes Ready
 module _ {K : Type 0} (before : Graph Ref K) (task to : ℕ) (apart : to ≡ task → ⊥) where
-  pub forwarded_ready : (q : ℕ) → (q ≡ task → ⊥) → status (forwarded before task to) q ≡ Ready → status before q ≡ Ready
-  forwarded_ready q other is =
+  ready_then : (q : ℕ) (u v : Unfinished Ref K) → task_at before q ≡ Some u → v.inputs ≡ each (redirected task to) u.inputs → v.runner ≡ u.runner
+      → list_any is_awaiting v.inputs ≡ false → v.runner ≡ None → status before q ≡ Ready
+  ready_then q u v at inputs runner waits free =
+      ready_from before q u at (sym (redirected_waits task to u.inputs) ∙ ap (list_any is_awaiting) (sym inputs) ∙ waits) (sym runner ∙ free)
+
+  pub forwarded_ready : (q : ℕ) → status (forwarded before task to) q ≡ Ready → status before q ≡ Ready
+  forwarded_ready q is =
       let handed = forwarded_hands before task to apart in
       let ready = ready_is (forwarded before task to) q is in
       let was = handed.from q ready.0 ready.1 in
-      let now = handed.other q was.0 other was.1 in
-      let same : ready.0 ≡ now.0 = same_some ready.0 now.0 (sym ready.1 ∙ now.1) in
-      ready_from before q was.0 was.1
-      (sym (redirected_waits task to was.0.inputs) ∙ ap (list_any is_awaiting) (sym now.2) ∙ ap (λ (v : Unfinished Ref K). list_any is_awaiting v.inputs) (sym same) ∙ ready.2)
-      (sym now.4 ∙ ap (λ (v : Unfinished Ref K). v.runner) (sym same) ∙ ready.3)
+      elim (same_or_not q task) [
+        | inl here ↦
+            let now = handed.here was.0 (ap (task_at before) (sym here) ∙ was.1) in
+            let same : ready.0 ≡ now.0 = same_some ready.0 now.0 (sym ready.1 ∙ ap (task_at (forwarded before task to)) here ∙ now.1) in
+            ready_then q was.0 ready.0 was.1 (ap (λ (v : Unfinished Ref K). v.inputs) same ∙ now.2) (ap (λ (v : Unfinished Ref K). v.runner) same ∙ now.4) ready.2 ready.3
+        | inr other ↦
+            let now = handed.other q was.0 other was.1 in
+            let same : ready.0 ≡ now.0 = same_some ready.0 now.0 (sym ready.1 ∙ now.1) in
+            ready_then q was.0 ready.0 was.1 (ap (λ (v : Unfinished Ref K). v.inputs) same ∙ now.2) (ap (λ (v : Unfinished Ref K). v.runner) same ∙ now.4) ready.2 ready.3
+      ]
