@@ -1,3 +1,4 @@
+pub mod ChunksFormed
 pub mod Places
 pub mod Registering
 mod Endings

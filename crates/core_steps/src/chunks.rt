@@ -74,7 +74,13 @@ fn register_chunk<C: Payload>(
 {
     let held = read_places(names, inputs, made.as_slice(), &chunk.children);
     let children = leading(&held, chunk.children.count as usize);
-    let id: Result<_, _> = names.register(counter, Holder::Task(task), worker, chunk.body, children);
+    let id: Result<_, _> = names.register(
+        counter,
+        Holder::Task(task),
+        worker,
+        chunk.body,
+        children,
+    );
     made.push_reserved(Ref::Id(id.unwrap()));
 }
 
@@ -106,7 +112,10 @@ pub fn register_chunks<C: Payload>(
     ensures within { AreWithin names.new.names counter.new }
     ensures inputs { AreLive names.new.names inputs.now }
     ensures live { AreLive names.new.names made.new.items }
+    ensures at_most { counter.new ≤ counter.old + 6 * length chunks }
+    ensures count { length made.new.items ≡ length chunks }
     ensures stores { workers_of names.new ≡ workers_of names.old }
+    ensures bodies { spare_of names.old worker ≤ spare_of names.new worker + length chunks }
     ensures ids { names.old.room.ids ≤ names.new.room.ids + 5 * length chunks }
     ensures capacity { vec_capacity made.new ≡ vec_capacity made.old }
 {

@@ -1,8 +1,7 @@
-use Rattle.std.proofs.Common.{◌≡◌, Some, sym, subst, arith}
+use Rattle.std.proofs.Common.{sym, subst, arith}
 use Rattle.cht_ids.specs.declared.refs.Ref.TheVariants.{Id as Held}
 use Rattle.name_states.specs.declared.holder.Holder.TheVariants.{Task as ByTask}
-use Rattle.name_states.specs.States.{holder_of, AreLive}
-use Rattle.name_states.specs.Steps.{registered}
+use Rattle.name_states.specs.States.{AreLive}
 use Rattle.name_machine.proofs.Orderly.{ref_is_live}
 use Rattle.name_machine.proofs.FinishNamesRead.{live_more}
 use Rattle.core_steps.proofs.Registering.{present_few, live_taken, live_registered}
