@@ -10,3 +10,6 @@ pub mod Newly
 pub mod Awaited
 pub mod Resolved
 pub mod EndOfFinish
+pub mod Holding
+pub mod Adding
+pub mod ReadyForTasks

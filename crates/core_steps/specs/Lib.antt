@@ -4,3 +4,4 @@ pub mod Ending
 pub mod Delivered
 pub mod NewlyReady
 pub mod Registrable
+pub mod NewTasks
