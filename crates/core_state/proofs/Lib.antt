@@ -11,3 +11,4 @@ pub mod FourInputs
 pub mod NewAsk
 pub mod Fresh
 pub mod Emptied
+pub mod Resolving

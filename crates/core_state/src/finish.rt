@@ -1,6 +1,7 @@
 // The outcome of a task takes effect.
 ghost use Rattle.std.specs.Prelude.{◌≡◌, ◌↔◌, ◌⊎◌, ℕ, ◌+◌, ◌<◌, ◌≤◌, ◌^◌, nat_eq, [], length, map as each, vec_len, vec_capacity, Some, IfOk, OnOk, OnErr, IsSome};
 ghost use Rattle.std.specs.List.{Contains, IsDistinct};
+ghost use Rattle.std.specs.List.Sorted.{IsStrictlyIncreasing};
 ghost use Rattle.cht_ids.specs.declared.refs.Ref.{Ref as AnyRef};
 ghost use Rattle.cht_ids.specs.declared.refs.Ref.TheVariants.{Null as NullRef};
 ghost use Rattle.task_types.specs.declared.outcome.Place.{Place as AnyPlace};
@@ -194,5 +195,149 @@ fn resolve<C: Payload, K: Copy>(
     match new_task(place, numbers) {
         None => settle_all(names, graph, asks, task, output, ready),
         Some(to) => graph.forward(task, to),
+    }
+}
+
+// All memory of a finish: the places for the journal, what the outcome fills, and room for it in the names and among the tasks.
+fn prepare<C: Payload, K: Copy>(
+    alloc: Global,
+    names: &mut Refs<C>,
+    graph: &mut Tasks<K>,
+    w: u32,
+    task: TaskNo,
+    chunks: &[NewChunk<C>],
+) -> Result<(List<Places>, Space), Memory>
+    requires worker { w < workers_of names.old }
+    requires there { IsSome (task_at graph.old.graph task) }
+    ensures names { names.new.names ≡ names.old.names }
+    ensures stores { length names.new.room.bodies ≡ length names.old.room.bodies }
+    ensures graph { graph.new.graph ≡ graph.old.graph }
+    ensures places { IfOk result (λ both. both.0 ≡ each (λ chunk. chunk.children) chunks.now) }
+    ensures space { IfOk result (λ both. HasRoom graph.old.graph task both.1) }
+    ensures bodies { OnOk result (8 ≤ spare_of names.new w) }
+    ensures ids { OnOk result (104 + length (awaiters graph.old.graph task) ≤ names.new.room.ids) }
+    ensures tasks { OnOk result (16 ≤ graph.new.spare) }
+{
+    let places = child_places(alloc, chunks)?;
+    let count = make_finish_room(names, graph, w, task)?;
+    let space = make_space(alloc, graph, task, count)?;
+    Ok((places, space))
+}
+
+// Sorts tasks, each of which is there once.
+fn sort_ready(ready: &mut Vec<TaskNo>)
+    requires { IsDistinct nat_eq ready.old.items }
+    ensures rise { IsStrictlyIncreasing ready.new.items }
+    ensures same { (q : ℕ) → Contains ready.new.items q ↔ Contains ready.old.items q }
+{
+    ready.sort_unstable();
+}
+
+// What an outcome makes of the names, the asks and the unfinished tasks. Answers the tasks that became Ready. It takes no memory.
+fn take_effect<C: Payload, K: Copy>(
+    names: &mut Refs<C>,
+    counter: &mut Counter,
+    graph: &mut Tasks<K>,
+    asks: &mut Asks,
+    w: u32,
+    task: TaskNo,
+    chunks: List<NewChunk<C>>,
+    tasks: &[NewTask<K>],
+    place: Place,
+    space: Space,
+) -> Vec<TaskNo>
+    requires can { (ran : Unfinished AnyRef K) × CanFinish C.arity (control_of counter.old names.old.names asks.old.asks graph.old.graph) w task ran
+        (record { chunks = chunks; tasks = tasks.now; result = place }) }
+    requires caller { (ran : Unfinished AnyRef K) → task_at graph.old.graph task ≡ Some ran → ran.caller < 64 }
+    requires few { counter.old < 2 ^ 97 }
+    requires worker { w < workers_of names.old }
+    requires bodies { 8 ≤ spare_of names.old w }
+    requires ids { 104 + length (awaiters graph.old.graph task) ≤ names.old.room.ids }
+    requires spare { 16 ≤ graph.old.spare }
+    requires space { HasRoom graph.old.graph task space }
+    ensures effect { control_of counter.new names.new.names asks.new.asks graph.new.graph
+        ≡ tidied (after_finish (control_of counter.old names.old.names asks.old.asks graph.old.graph) w task (each (λ chunk. chunk.body) chunks)
+            (each (λ chunk. chunk.children) chunks) tasks.now place (task_at graph.old.graph task)) }
+    ensures ready { AreNewlyReady graph.old.graph graph.new.graph result.items }
+    ensures stores { length names.new.room.bodies ≡ length names.old.room.bodies }
+    ensures callers { length asks.new.rooms ≡ length asks.old.rooms }
+{
+    let Space {
+        inputs,
+        mut made,
+        mut numbers,
+        mut ready,
+    } = space;
+    let caller = graph.caller(task);
+    register_chunks(names, counter, w, task, &inputs, chunks, &mut made);
+    let output = read_place(names, &inputs, &made, place);
+    add_tasks(
+        names,
+        counter,
+        graph,
+        caller,
+        &inputs,
+        &made,
+        tasks,
+        &mut numbers,
+    );
+    list_ready(graph, &numbers, &mut ready);
+    resolve(
+        names, graph, asks, task, place, output, &numbers, &mut ready,
+    );
+    end_task(names, graph, task, &inputs, &made);
+    sort_ready(&mut ready);
+    ready
+}
+
+impl<C: Payload, K: Copy> CoreState<C, K> {
+    /// The outcome of the task that a worker runs takes effect: its chunks are registered, its tasks are there, what awaits the task is
+    /// settled or awaits one of these, and the task goes with what it holds. Answers the tasks that became Ready, by rising number.
+    ///
+    /// It takes all its memory first; after `Memory` all is as before, and the outcome is dropped.
+    pub fn finish(&mut self, w: u32, outcome: Outcome<C, K>) -> Result<List<TaskNo>, Memory>
+        requires worker { w < self.old.workers }
+        requires formed { (task : ℕ) × (ran : Unfinished AnyRef K) × CanFinish C.arity self.old.control w task ran outcome }
+        ensures event { IfOk result (λ ready. (task : ℕ) → RunsTask self.old.control w task → self.new ≡ after_event self.old (bodies_of outcome) (finish_of w task outcome)) }
+        ensures ready { IfOk result (λ ready. AreNewlyReady self.old.control.graph self.new.control.graph ready) }
+        ensures unchanged { OnErr result (self.new ≡ self.old) }
+    {
+        let task = self.running[w as usize].unwrap();
+        let (places, space) = prepare(
+            self.alloc,
+            &mut self.names,
+            &mut self.graph,
+            w,
+            task,
+            outcome.chunks.as_slice(),
+        )?;
+        let _events = self.journal.len();
+        let Outcome {
+            chunks,
+            tasks,
+            result,
+        } = outcome;
+        let ready = take_effect(
+            &mut self.names,
+            &mut self.counter,
+            &mut self.graph,
+            &mut self.asks,
+            w,
+            task,
+            chunks,
+            tasks.as_slice(),
+            result,
+            space,
+        );
+        self.running[w as usize] = None;
+        self.owed -= 1;
+        self.journal.push_reserved(Event::Finish {
+            worker: w,
+            task,
+            chunks: places,
+            tasks,
+            result,
+        });
+        Ok(List::from_vec(ready))
     }
 }

@@ -79,7 +79,9 @@ fn is_ready_now<K: Copy>(graph: &Tasks<K>, task: TaskNo) -> bool
 /// Those among these tasks that are Ready, in order, added to `ready`, which has room for all of them.
 pub fn list_ready<K: Copy>(graph: &Tasks<K>, tasks: &[TaskNo], ready: &mut Vec<TaskNo>)
     requires { vec_len ready.old + length tasks.now ≤ vec_capacity ready.old }
-    ensures { ready.new.items ≡ ready.old.items ++ filter (is_ready_in graph.now.graph) tasks.now }
+    ensures ready { ready.new.items ≡ ready.old.items ++ filter (is_ready_in graph.now.graph) tasks.now }
+    ensures len { vec_len ready.new ≤ vec_len ready.old + length tasks.now }
+    ensures capacity { vec_capacity ready.new ≡ vec_capacity ready.old }
 {
     for task in tasks {
         if is_ready_now(graph, *task) {

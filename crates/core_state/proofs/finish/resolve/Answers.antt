@@ -1,33 +1,11 @@
-use Rattle.std.proofs.Common.{rules, ◌≡◌, ◌↔◌, ◌⊎◌, ℕ, ◌+◌, ◌<◌, ◌≤◌, ◌^◌, nat_eq, [], length}
-use Rattle.std.proofs.Common.{map as each}
-use Rattle.std.proofs.Common.{vec_len, vec_capacity, Some, IfOk, OnOk, OnErr, IsSome, ◌-◌, ◌*◌, ◌/◌, ◌%◌, Bool, true, false, nat_lt, List, ◌∷◌, ◌++◌, slice_index_or, slice_set, bit_and, bit_or, Fits, w8, w32, w64, Bor, MutBor}
-use Rattle.std.specs.List.{Contains, IsDistinct}
-use Rattle.cht_ids.specs.declared.refs.Ref.{Ref as AnyRef}
-use Rattle.cht_ids.specs.declared.refs.Ref.TheVariants.{Null as NullRef}
-use Rattle.task_types.specs.declared.outcome.Place.{Place as AnyPlace}
-use Rattle.task_types.specs.declared.outcome.Place.TheVariants.{Null, Task}
-use Rattle.name_states.specs.States.{IsLiveRef}
-use Rattle.task_states.specs.declared.states.TaskStatus.TheVariants.{Waiting}
-use Rattle.task_states.specs.Maps.{each_changed}
-use Rattle.task_states.specs.States.{Unfinished, task_at, asked_of, status}
-use Rattle.task_states.specs.Steps.{all_delivered}
-use Rattle.task_states.specs.Listing.{awaiters}
-use Rattle.task_graph.specs.Contents.{input_of}
-use Rattle.chunk_refs.specs.Room.{workers_of, spare_of}
-use Rattle.name_machine.specs.NewTasks.{number_at}
-use Rattle.name_machine.specs.Control.{ref_known, with_number, copies_of, awaiting, answered_with, resolved_to, tidied, after_finish}
-use Rattle.core_steps.specs.Begin.{CanFinish}
-use Rattle.core_steps.specs.Conditions.{RunsTask, bodies_of, finish_of}
-use Rattle.core_steps.specs.Delivered.{AreSetApart, IsNowReady}
-use Rattle.core_steps.specs.NewlyReady.{AreNewlyReady}
-use Rattle.core_state.specs.Contents.{after_event}
-use Rattle.core_state.specs.Effect.{control_of, task_named, HasRoom, CanForward}
+use Rattle.std.proofs.Common.{sym, ◌∙◌}
+use Rattle.core_state.proofs.Resolving.{named_apart, none_ready}
 use Rattle.core_state.proofs.finish.resolve.Goals as goal
 
--- src/finish.rt:194:11
 pub new_task-requires : goal.new_task-requires
-new_task-requires g c = ?
+new_task-requires g c = λ i is. (c.requires.forward i is).within
 
--- src/finish.rt:171:1
 pub returns-in-Some-clause-ready : goal.returns-in-Some-clause-ready
-returns-in-Some-clause-ready g c = ?
+returns-in-Some-clause-ready g c =
+    none_ready c.args.graph.now.graph c.forward.new.self.graph c.args.task c.in-Some.to c.forward.ensures.graph
+    (named_apart c.args.graph.now.graph c.args.task c.args.numbers.now c.args.place c.in-Some.to c.requires.forward (sym c.new_task.ensures ∙ c.in-Some.is)) c.args.ready.now.items
