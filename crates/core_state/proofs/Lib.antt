@@ -12,3 +12,4 @@ pub mod NewAsk
 pub mod Fresh
 pub mod Emptied
 pub mod Resolving
+pub mod Effects

@@ -1,11 +1,11 @@
 -- How the output of a finished task is handed on.
-use Rattle.std.proofs.Common.{◌≡◌, ◌↔◌, ℕ, zero, suc, ◌<◌, ◌⊎◌, inl, inr, List, [], ◌∷◌, get_or, Option, None, Some, refl, sym, ap, ◌∙◌, arith, nat_cmp}
+use Rattle.std.proofs.Common.{◌≡◌, ◌↔◌, ℕ, zero, suc, ◌<◌, ◌⊎◌, inl, inr, List, [], ◌∷◌, get_or, Option, None, Some, refl, sym, ap, ◌∙◌, arith, nat_cmp, nat_eq}
 use Rattle.std.specs.List.{Contains}
 use Rattle.std.specs.FinMap as map
 use Rattle.cht_ids.specs.declared.refs.Ref.{Ref}
 use Rattle.task_types.specs.declared.outcome.Place.{Place}
 use Rattle.task_types.specs.declared.outcome.Place.TheVariants.{Null, Input, Child, Chunk, Task}
-use Rattle.name_states.proofs.Basics.{none_not_some, same_some}
+use Rattle.name_states.proofs.Basics.{none_not_some, same_some, same_or_not, test_same, test_apart}
 use Rattle.task_states.specs.Maps.{each_changed}
 use Rattle.task_states.specs.States.{Graph, status}
 use Rattle.task_states.specs.Steps.{forwarded}
@@ -42,3 +42,10 @@ named_apart graph task numbers (Input i) to can is same = none_not_some refl is
 named_apart graph task numbers (Child i j) to can is same = none_not_some refl is
 named_apart graph task numbers (Chunk i) to can is same = none_not_some refl is
 named_apart graph task numbers (Task i) to can is same = (can i refl).apart (sym (same_some (number_at numbers i) to is ∙ same))
+
+-- equality of numbers, tested from either side
+pub test_flips : (a b : ℕ) → nat_eq a b ≡ nat_eq b a
+test_flips a b = elim (same_or_not a b) [
+  | inl same ↦ ap (λ k. nat_eq k b) same ∙ test_same b ∙ sym (ap (nat_eq b) same ∙ test_same b)
+  | inr apart ↦ test_apart a b apart ∙ sym (test_apart b a (λ same. apart (sym same)))
+]
