@@ -1,10 +1,12 @@
 -- What hangs together once the outcome of a task took effect.
-use Rattle.std.proofs.Common.{◌≡◌, ℕ, zero, suc, ◌+◌, ◌*◌, ◌<◌, ◌≤◌, ◌⊎◌, inl, inr, Bool, true, false, cond, nat_eq, List, [], ◌∷◌, ◌++◌, map as each, length, take, slice_set, count_by, Option, None, Some, is_some, refl, sym, ap, subst, ◌∙◌, arith, nat_cmp}
+use Rattle.std.proofs.Common.{◌≡◌, ℕ, zero, suc, ◌+◌, ◌*◌, ◌<◌, ◌≤◌, ◌⊎◌, inl, inr, Bool, true, false, cond, nat_eq, List, [], ◌∷◌, ◌++◌, map as each, length, take, get_or, slice_set, count_by, Option, None, Some, is_some, refl, sym, ap, subst, ◌∙◌, arith, nat_cmp}
 use Rattle.std.specs.Prelude.{slice_get}
 use Rattle.std.specs.Option.{option_map}
 use Rattle.std.specs.List.{list_any, flat_map}
 use Rattle.std.specs.FinMap as map
+use Rattle.std.specs.FinSet as sets
 use Rattle.std.proofs.Math.ListN.{length-set}
+use Rattle.std.proofs.lemmas.Option.{slice_get_read}
 use Rattle.cht_ids.specs.declared.refs.Ref.{Ref}
 use Rattle.cht_ids.specs.declared.refs.Ref.TheVariants.{Null as NullRef, Id as Held}
 use Rattle.task_types.specs.declared.outcome.Place.{Place}
@@ -33,6 +35,7 @@ use Rattle.chunk_refs.proofs.Stores.{get-set_here, get-set_other}
 use Rattle.name_machine.specs.States.{Ask, is_of, has_ask}
 use Rattle.name_machine.specs.NewTasks.{drawn_for, taken, drawn_by_chunks, drawn_by_tasks, task_numbers, number_at, new_inputs, with_tasks}
 use Rattle.name_machine.specs.Control.{Control, Grown, ref_known, is_held_by, with_number, number_awaiting, number_asked, numbers_awaiting, asked_numbers, awaiting, answered_with, copy_of, copies_of, without_ids, ref_named, chunk_more, chunks_more, input_copies, task_copies, resolved_to, without_task, tidied, after_finish}
+use Rattle.name_machine.specs.Replay.{is_run_by}
 use Rattle.name_machine.proofs.Values.{any_from, any_to}
 use Rattle.name_machine.proofs.Tasks.{mapped_from}
 use Rattle.name_machine.proofs.Fewer.{left_at}
@@ -43,6 +46,7 @@ use Rattle.core_steps.specs.Conditions.{bodies_of, finish_of}
 use Rattle.core_steps.proofs.Awaited as awaited
 use Rattle.core_steps.proofs.Course as course
 use Rattle.core_steps.proofs.Handed.{IsHanded}
+use Rattle.core_steps.proofs.Resolved.{unanswered}
 use Rattle.core_state.specs.AskTable.{AskTable}
 use Rattle.core_state.specs.Contents.{after_event}
 use Rattle.core_state.specs.Effect.{control_of}
@@ -51,7 +55,7 @@ use Rattle.core_state.specs.Needed.{due_for_holder, due_for_id, due_for_output, 
 use Rattle.core_state.proofs.Totals.{total_less, total_replaced, below_same}
 use Rattle.core_state.proofs.Needs.{due_copied, due_registered, more_events}
 use Rattle.core_state.proofs.Effects as effects
-use Rattle.core_state.proofs.Working.{count_set}
+use Rattle.core_state.proofs.Working.{count_set, run_is}
 
 -- ---- What callers may delete
 
@@ -257,3 +261,267 @@ stopped_stay value numbers caller drawn [] graph = refl
 stopped_stay value numbers caller drawn (task ∷ tasks) graph =
     stopped_stay value numbers caller (drawn + 1 + taken (places_of task.inputs)) tasks
     (added graph (drawn + 1) caller task.kind (new_inputs value numbers (drawn + 1) (places_of task.inputs)))
+
+-- ---- What is left
+
+module _ {C K : Type 0} (arity : C → ℕ) (control : Control C (Unit {0}) K) (worker task : ℕ) (ran : Unfinished Ref K) (outcome : Outcome C K)
+    (can : CanFinish arity control worker task ran outcome) where
+  abbrev grown : Grown C
+  grown = awaited.grown arity control worker task ran outcome can
+
+  abbrev numbers : List ℕ
+  numbers = awaited.numbers arity control worker task ran outcome can
+
+  abbrev read : Place → Ref
+  read = awaited.read arity control worker task ran outcome can
+
+  abbrev tasked : Control C (Unit {0}) K
+  tasked = awaited.tasked arity control worker task ran outcome can
+
+  abbrev value : Place → ℕ → Ref
+  value place number = with_number (read place) number
+
+  abbrev on : Place → Control C (Unit {0}) K
+  on place = resolved_to tasked task numbers read place
+
+  -- asks after the output is handed on, and what is owed for identifiers and asks
+  record Owes (names : NameState C) (asks : Asks) : Type 0 where
+    pub due : total_by due_for_id names.ids + total_by due_for_ask asks ≤ total_by due_for_id tasked.names.ids + total_by due_for_ask control.asks
+    pub has : (c : ℕ) → has_ask asks c ≡ has_ask control.asks c
+    pub callers : (key : ℕ) (b : Ask (Unit {0}) Ref) → map.get asks key ≡ Some b → (a : Ask (Unit {0}) Ref) × (map.get control.asks key ≡ Some a) × (b.caller ≡ a.caller)
+
+  asked_due : (asked : Option ℕ) → ran.asked ≡ asked → (r : Ref) → total_by due_for_ask (each_changed (answered_with asked r) control.asks) + one_if asked ≡ total_by due_for_ask control.asks
+  asked_due None is r =
+      let same : total_by due_for_ask (each_changed (answered_with None r) control.asks) ≡ total_by due_for_ask control.asks = ap (total_by due_for_ask) (unanswered control.asks r) in
+      omega arith
+  asked_due (Some n) is r =
+      let own = can.together.asked task n ran can.there is in
+      due_answered control.asks r n own.0 own.1 own.2 own.4 own.5 can.together.outputs_differ
+
+  settled_owes : (r : Ref) → Owes (copies_of tasked.names r (awaiting tasked.graph task)) (each_changed (answered_with (asked_of tasked.graph task) r) control.asks)
+  settled_owes r =
+      let there = awaited.still_there arity control worker task ran outcome can in
+      let asked_is : asked_of tasked.graph task ≡ ran.asked = ap (λ (o : Option (Unfinished Ref K)). elim o as (λ x. Option ℕ) [ None ↦ None | Some t ↦ t.asked ]) there in
+      record {
+        due =
+            let copies = due_copies tasked.names r (awaiting tasked.graph task) in
+            let list = due_awaiting tasked.graph task ran there in
+            let asks = asked_due ran.asked refl r in
+            let same : total_by due_for_ask (each_changed (answered_with (asked_of tasked.graph task) r) control.asks) ≡ total_by due_for_ask (each_changed (answered_with ran.asked r) control.asks) =
+            ap (λ o. total_by due_for_ask (each_changed (answered_with o r) control.asks)) asked_is in
+            omega arith;
+        has = has_stays control.asks (asked_of tasked.graph task) r;
+        callers = callers_stay control.asks (asked_of tasked.graph task) r;
+      }
+
+  place_owes : (place : Place) → Owes (on place).names (on place).asks
+  place_owes Null = settled_owes NullRef
+  place_owes (AtInput i) = settled_owes (read (AtInput i))
+  place_owes (Child i j) = settled_owes (read (Child i j))
+  place_owes (Chunk i) = settled_owes (read (Chunk i))
+  place_owes (Task i) = record { due = omega arith; has = λ c. refl; callers = λ key b is. (b, is, refl) }
+
+  -- ---- Tasks
+
+  abbrev left : Graph Ref K
+  left = removed (on outcome.result).graph task
+
+  left_from : (q : ℕ) (v : Unfinished Ref K) → task_at left q ≡ Some v
+      → (q ≡ task → ⊥) × (((u : Unfinished Ref K) × (task_at control.graph q ≡ Some u) × (v.caller ≡ u.caller) × (v.runner ≡ u.runner)) ⊎ ((v.caller ≡ ran.caller) × (v.runner ≡ None)))
+  left_from q v is =
+      let handed = (effects.result_on arity control worker task ran outcome can).handed in
+      let was = removed_from (on outcome.result).graph.tasks task q v is in
+      let u = handed.from q v was.1 in
+      let now = handed.other q u.0 was.0 u.1 in
+      let same : v ≡ now.0 = same_some v now.0 (sym was.1 ∙ now.1) in
+      let caller : v.caller ≡ u.0.caller = ap (λ (t : Unfinished Ref K). t.caller) same ∙ now.3 in
+      let runner : v.runner ≡ u.0.runner = ap (λ (t : Unfinished Ref K). t.runner) same ∙ now.4 in
+      (
+        was.0,
+        elim (new_from value numbers ran.caller grown.drawn outcome.tasks control.graph q u.0 u.1) [
+          | inl old ↦ inl (u.0, old, caller, runner)
+          | inr new ↦ inr (caller ∙ ap (λ (t : Unfinished Ref K). t.caller) new.is, runner ∙ ap (λ (t : Unfinished Ref K). t.runner) new.is)
+        ],
+      )
+
+  left_to : (q : ℕ) (u : Unfinished Ref K) → (q ≡ task → ⊥) → task_at control.graph q ≡ Some u → (v : Unfinished Ref K) × (task_at left q ≡ Some v) × (v.runner ≡ u.runner)
+  left_to q u apart is =
+      let handed = (effects.result_on arity control worker task ran outcome can).handed in
+      let low = can.together.tasks_drawn q u is in
+      let up = (course.chunk_stage arity control worker task ran outcome can).up in
+      let there : task_at tasked.graph q ≡ Some u = old_stays value numbers ran.caller grown.drawn outcome.tasks control.graph q (omega arith) ∙ is in
+      let now = handed.other q u apart there in
+      (now.0, removed_other (on outcome.result).graph.tasks task q apart ∙ now.1, now.4)
+
+  stopped_is : left.stopped ≡ control.graph.stopped
+  stopped_is =
+      (effects.result_on arity control worker task ran outcome can).handed.stopped
+      ∙ stopped_stay value numbers ran.caller grown.drawn outcome.tasks control.graph
+
+  left_run : (running : List (Option ℕ)) → AreRun control.graph running → slice_get running worker ≡ Some (Some task) → AreRun left (slice_set running worker None)
+  left_run running run runs = record {
+    runner = λ q w v is by.
+        let was = left_from q v is in
+        elim was.1 [
+          | inl old ↦
+              let before = run.runner q w old.0 old.1 (sym old.3 ∙ by) in
+              elim (same_or_not w worker) [
+                | inl same ↦ absurd (was.0 (sym (same_some task q (same_some (Some task) (Some q) (sym runs ∙ ap (slice_get running) (sym same) ∙ before)))))
+                | inr apart ↦ get-set_other running worker w None apart ∙ before
+              ]
+          | inr new ↦ absurd (none_not_some new.1 by)
+        ];
+    task = λ w q is.
+        elim (same_or_not w worker) [
+          | inl same ↦ absurd (none_not_some refl (same_some None (Some q) (sym (get-set_here running worker None (Some task) runs) ∙ ap (slice_get (slice_set running worker None)) (sym same) ∙ is)))
+          | inr apart ↦
+              let old = run.task w q (sym (get-set_other running worker w None apart) ∙ is) in
+              elim (same_or_not q task) [
+                | inl here ↦
+                    let both : ran ≡ old.0 = same_some ran old.0 (sym can.there ∙ ap (task_at control.graph) (sym here) ∙ old.1) in
+                    absurd (apart (same_some w worker (sym old.2 ∙ ap (λ (t : Unfinished Ref K). t.runner) (sym both) ∙ can.runner)))
+                | inr other ↦ (let now = left_to q old.0 other old.1 in (now.0, now.1, now.2 ∙ old.2))
+              ]
+        ];
+  }
+
+  -- ---- Numbers
+
+  numbers_few : tasked.drawn ≤ control.drawn + 128
+  numbers_few =
+      let chunks = chunks_draw arity task control worker (each ref_known ran.inputs) (course.trees arity control worker task ran outcome can) outcome.chunks (record { names = control.names; drawn = control.drawn; chunks = [] }) in
+      let few = chunks_few (each (λ (chunk : NewChunk C). chunk.children) outcome.chunks) in
+      let count = each_few (λ (chunk : NewChunk C). chunk.children) outcome.chunks in
+      let more = tasks_few outcome.tasks in
+      let eight = can.formed.few_chunks in
+      let sixteen = can.formed.few_tasks in
+      omega arith
+
+  tasked_due : total_by due_for_id tasked.names.ids ≤ total_by due_for_id control.names.ids
+  tasked_due =
+      let chunks = due_chunks worker task (each ref_known ran.inputs) (bodies_of outcome) (each (λ (chunk : NewChunk C). chunk.children) outcome.chunks) (record { names = control.names; drawn = control.drawn; chunks = [] }) in
+      let tasks = due_tasks read grown.drawn outcome.tasks grown.names in
+      omega arith
+
+  -- the control state is this
+  abbrev final : Control C (Unit {0}) K
+  final = tidied (without_task (on outcome.result) task)
+
+  pub final_is : (now : Control C (Unit {0}) K)
+      → now ≡ tidied (after_finish control worker task (bodies_of outcome) (each (λ (chunk : NewChunk C). chunk.children) outcome.chunks) outcome.tasks outcome.result (task_at control.graph task))
+      → now ≡ final
+  final_is now is =
+      is ∙ ap (λ o. tidied (after_finish control worker task (bodies_of outcome) (each (λ (chunk : NewChunk C). chunk.children) outcome.chunks) outcome.tasks outcome.result o)) can.there
+
+  final_drawn : (place : Place) → (on place).drawn ≡ tasked.drawn
+  final_drawn Null = refl
+  final_drawn (AtInput i) = refl
+  final_drawn (Child i j) = refl
+  final_drawn (Chunk i) = refl
+  final_drawn (Task i) = refl
+
+-- ---- What hangs together then
+
+module _ {C K : Type 0} (drawn : ℕ) (names : Names C) (table : AskTable) (graph : Graph Ref K) (history : History K) (callers : ℕ) (running : List (Option ℕ)) (owed : ℕ)
+    (kept : IsKept drawn names table graph history callers running owed)
+    (arity : C → ℕ) (worker task : ℕ) (ran : Unfinished Ref K) (outcome : Outcome C K)
+    (can : CanFinish arity (control_of drawn names.names table.asks graph) worker task ran outcome)
+    (runs : slice_get running worker ≡ Some (Some task)) where
+  abbrev before : Control C (Unit {0}) K
+  before = control_of drawn names.names table.asks graph
+
+  module _ (drawn2 : ℕ) (names2 : Names C) (table2 : AskTable) (graph2 : Graph Ref K) (history2 : History K) (event : Event K)
+      (effect : control_of drawn2 names2.names table2.asks graph2
+      ≡ tidied (after_finish before worker task (bodies_of outcome) (each (λ (chunk : NewChunk C). chunk.children) outcome.chunks) outcome.tasks outcome.result (task_at graph task)))
+      (events : history2.events ≡ history.events ++ event ∷ []) where
+    abbrev last : Control C (Unit {0}) K
+    last = final arity before worker task ran outcome can
+
+    now_is : control_of drawn2 names2.names table2.asks graph2 ≡ last
+    now_is = final_is arity before worker task ran outcome can (control_of drawn2 names2.names table2.asks graph2) effect
+
+    pub finished_kept : (owed2 : ℕ) → length names2.room.bodies ≡ length names.room.bodies → length table2.rooms ≡ length table.rooms
+        → owed2 + 1 ≡ owed → history2.spare + 1 ≡ history.spare
+        → IsKept drawn2 names2 table2 graph2 history2 callers (slice_set running worker None) owed2
+    finished_kept owed2 stores rooms less spare =
+        let long : length (slice_set running worker None) ≡ length running = length-set running worker None in
+        let owes = place_owes arity before worker task ran outcome can outcome.result in
+        let drawn_is : drawn2 ≡ (tasked arity before worker task ran outcome can).drawn = ap (λ (s : Control C (Unit {0}) K). s.drawn) now_is ∙ final_drawn arity before worker task ran outcome can outcome.result in
+        let asks_is : table2.asks ≡ (on arity before worker task ran outcome can outcome.result).asks = ap (λ (s : Control C (Unit {0}) K). s.asks) now_is in
+        let graph_is : graph2 ≡ left arity before worker task ran outcome can = ap (λ (s : Control C (Unit {0}) K). s.graph) now_is in
+        let few = numbers_few arity before worker task ran outcome can in
+        let count = count_set running worker (Some task) None runs in
+        let ids : total_by due_for_id names2.names.ids ≡ total_by due_for_id last.names.ids = ap (λ (s : Control C (Unit {0}) K). total_by due_for_id s.names.ids) now_is in
+        let fewer = due_left (on arity before worker task ran outcome can outcome.result).names task in
+        let tasks_due = tasked_due arity before worker task ran outcome can in
+        let asks_due : total_by due_for_ask table2.asks ≡ total_by due_for_ask (on arity before worker task ran outcome can outcome.result).asks = ap (total_by due_for_ask) asks_is in
+        let due = owes.due in
+        let stopped : graph2.stopped ≡ graph.stopped = ap (λ (g : Graph Ref K). g.stopped) graph_is ∙ stopped_is arity before worker task ran outcome can in
+        let shares : total_below callers (due_for_caller table2.asks (is_stopped graph2)) ≡ total_below callers (due_for_caller table.asks (is_stopped graph)) =
+        below_same callers (due_for_caller table2.asks (is_stopped graph2)) (due_for_caller table.asks (is_stopped graph))
+        (λ q low.
+        (λ i. cond (has_ask (asks_is i) q) (cond (sets.contains (stopped i) q) 1 2) 0)
+        ∙ ap (λ b. cond b (cond (is_stopped graph q) 1 2) 0) (owes.has q)) in
+        record {
+          few_callers = kept.few_callers;
+          few_workers = let few_workers = kept.few_workers in omega arith;
+          some_worker = let some = kept.some_worker in omega arith;
+          stores = stores ∙ kept.stores ∙ sym long;
+          lists = rooms ∙ kept.lists;
+          tasks = λ q v is.
+              let was = left_from arity before worker task ran outcome can q v (ap (λ (g : Graph Ref K). task_at g q) (sym graph_is) ∙ is) in
+              elim was.1 [
+                | inl old ↦ subst (λ n. n < callers) (sym old.2) (kept.tasks q old.0 old.1)
+                | inr new ↦ subst (λ n. n < callers) (sym new.0) (kept.tasks task ran can.there)
+              ];
+          asks = λ key b is.
+              let was = owes.callers key b (ap (λ (m : Asks). map.get m key) (sym asks_is) ∙ is) in
+              subst (λ n. n < callers) (sym was.2) (kept.asks key was.0 was.1);
+          run =
+              subst (λ (g : Graph Ref K). AreRun g (slice_set running worker None)) (sym graph_is)
+              (left_run arity before worker task ran outcome can running kept.run runs);
+          few = more_events drawn names table graph history callers running owed kept history2 event 128 drawn2 events (omega arith) (omega arith);
+          room = let room = kept.room in omega arith;
+          enough = let was = kept.enough in omega arith;
+        }
+
+    -- and the control state is that after the event
+    pub finished_is : event ≡ finish_of worker task outcome
+        → contents_of drawn2 names2 table2 graph2 history2 callers (slice_set running worker None)
+        ≡ after_event (contents_of drawn names table graph history callers running) (bodies_of outcome) (finish_of worker task outcome)
+    finished_is event_is =
+        let long : length (slice_set running worker None) ≡ length running = length-set running worker None in
+        λ i. record { control = effect i; events = (events ∙ ap (λ e. history.events ++ e ∷ []) event_is) i; callers = callers; workers = long i }
+
+-- ---- Which task a worker runs
+
+pub run_here : (running : List (Option ℕ)) (worker task : ℕ) (now : Option ℕ) → worker < length running → now ≡ get_or running worker now → slice_get running worker ≡ Some (Some task)
+    → now ≡ Some task
+run_here running worker task now within read is =
+    same_some now (Some task) (sym (slice_get_read running (length running) worker now refl within read) ∙ is)
+
+module _ {C K : Type 0} (arity : C → ℕ) (drawn : ℕ) (names : NameState C) (asks : Asks) (graph : Graph Ref K) (running : List (Option ℕ)) (run : AreRun graph running)
+    (worker task : ℕ) (ran : Unfinished Ref K) (outcome : Outcome C K) (can : CanFinish arity (control_of drawn names asks graph) worker task ran outcome) where
+  pub runs_it : slice_get running worker ≡ Some (Some task)
+  runs_it = run.runner task worker ran can.there can.runner
+
+  module _ (found : ℕ) (now : Option ℕ) (within : worker < length running) (read : now ≡ get_or running worker now) (is : now ≡ Some found) where
+    pub found_is : task ≡ found
+    found_is = same_some task found (sym (run_here running worker task now within read runs_it) ∙ is)
+
+    pub can_here : CanFinish arity (control_of drawn names asks graph) worker found ran outcome
+    can_here = subst (λ k. CanFinish arity (control_of drawn names asks graph) worker k ran outcome) found_is can
+
+    -- the same with more room, and with the new tasks as a slice
+    pub can_then : (names2 : NameState C) (graph2 : Graph Ref K) (tasks : List (NewTask K)) → names2 ≡ names → graph2 ≡ graph → tasks ≡ outcome.tasks
+        → CanFinish arity (control_of drawn names2 asks graph2) worker found ran (record { chunks = outcome.chunks; tasks = tasks; result = outcome.result })
+    can_then names2 graph2 tasks names_is graph_is tasks_are =
+        subst (λ n. CanFinish arity (control_of drawn n asks graph2) worker found ran (record { chunks = outcome.chunks; tasks = tasks; result = outcome.result })) (sym names_is)
+        (subst (λ gr. CanFinish arity (control_of drawn names asks gr) worker found ran (record { chunks = outcome.chunks; tasks = tasks; result = outcome.result })) (sym graph_is)
+        (subst (λ ts. CanFinish arity (control_of drawn names asks graph) worker found ran (record { chunks = outcome.chunks; tasks = ts; result = outcome.result })) (sym tasks_are) can_here))
+
+  -- no other task is run by the worker
+  pub run_one : (other : ℕ) → is_run_by worker (task_at graph other) ≡ true → other ≡ task
+  run_one other runs =
+      let there = run_is worker (task_at graph other) runs in
+      same_some other task (same_some (Some other) (Some task) (sym (run.runner other worker there.0 there.1 there.2) ∙ runs_it))

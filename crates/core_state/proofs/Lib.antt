@@ -13,3 +13,4 @@ pub mod Fresh
 pub mod Emptied
 pub mod Resolving
 pub mod Effects
+pub mod Finished
