@@ -15,3 +15,6 @@ pub mod Ended
 pub mod TasksEnded
 pub mod OutputsEnded
 pub mod GivenUp
+pub mod Resolving
+pub mod Effects
+pub mod Finished

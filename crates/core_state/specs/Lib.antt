@@ -6,3 +6,4 @@ pub mod Asked
 pub mod Needed
 pub mod Inside
 pub mod Ended
+pub mod Effect

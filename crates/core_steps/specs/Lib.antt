@@ -1,5 +1,8 @@
 pub mod Conditions
 pub mod Begin
+pub mod Ending
+pub mod Delivered
+pub mod NewlyReady
 pub mod Registrable
 pub mod Delivered
 pub mod NewTasks
