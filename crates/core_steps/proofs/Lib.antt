@@ -1,9 +1,6 @@
 pub mod ChunksFormed
 pub mod Places
 pub mod Registering
-mod Delivering
-pub mod Awaited
-pub mod Resolved
 mod Endings
 pub mod Course
 pub mod Exact
