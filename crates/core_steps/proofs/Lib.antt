@@ -10,3 +10,6 @@ pub mod EndOfFinish
 pub mod Holding
 pub mod Adding
 pub mod ReadyForTasks
+mod Delivering
+pub mod Awaited
+pub mod Resolved
