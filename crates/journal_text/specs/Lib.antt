@@ -1,0 +1,4 @@
+pub mod Text
+pub mod Bounds
+pub mod Sending
+pub mod Openings
