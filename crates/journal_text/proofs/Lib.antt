@@ -1,2 +1,4 @@
 pub mod Sending
 pub mod Parts
+pub mod Points
+pub mod Listing

@@ -2,7 +2,13 @@
 #![tactic(auto)]
 
 mod buffer;
+mod fields;
+mod head;
+mod lists;
+mod mentions;
+mod place_list;
 mod pushing;
+mod words;
 mod writing;
 
 pub use writing::write_journal;
