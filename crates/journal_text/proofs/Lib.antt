@@ -2,3 +2,4 @@ pub mod Sending
 pub mod Parts
 pub mod Points
 pub mod Listing
+pub mod Finishes

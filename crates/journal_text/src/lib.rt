@@ -4,10 +4,12 @@
 mod buffer;
 mod fields;
 mod head;
+mod line;
 mod lists;
 mod mentions;
 mod place_list;
 mod pushing;
+mod tails;
 mod words;
 mod writing;
 
