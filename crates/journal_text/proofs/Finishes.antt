@@ -1,12 +1,16 @@
 -- The first line of a finish, part by part.
-use Rattle.std.proofs.Common.{◌≡◌, ℕ, ◌<◌, ◌^◌, List, [], ◌∷◌, Option, Some, sym, ap}
+use Rattle.std.proofs.Common.{◌≡◌, ℕ, ◌<◌, ◌≤◌, ◌^◌, List, [], ◌∷◌, length, Option, Some, refl, sym, ap, ◌∙◌, subst, arith}
+use Rattle.std.specs.Prelude.{map}
+use Rattle.std.specs.List.{AllByRecursion}
+use Rattle.task_types.specs.declared.outcome.Places.{Places}
+use Rattle.task_types.specs.Places.{places_of, filled}
 use Rattle.task_types.specs.declared.outcome.Place.{Place}
 use Rattle.journal_text.specs.declared.head.Verb.{Verb}
 use Rattle.journal_text.specs.declared.head.Verb.TheVariants.{Finish as FinishVerb}
 use Rattle.journal_text.specs.declared.head.Head.{Head}
 use Rattle.journal_text.specs.declared.head.Head.TheVariants.{Finish}
 use Rattle.journal_text.specs.Text.{number, place_text}
-use Rattle.journal_text.specs.Bounds.{IsActor, IsNumber, IsPlace}
+use Rattle.journal_text.specs.Bounds.{IsActor, IsNumber, IsPlace, ArePlaces}
 use Rattle.journal_text.specs.Heads.{verb_of, tail_words, IsHead}
 
 -- the numbers of lines that follow, and the result
@@ -46,3 +50,19 @@ module _ {K : Type 0} (name_of : K → List ℕ) (height_of : K → ℕ) where
       let five : place ≡ result = ap (λ (it : Whole). it.4) whole in
       cc
   at_finish worker task chunks tasks place words every other verb within e = absurd (cc verb)
+
+-- at most four places, filled up
+filled_within : (list : List Place) → length list ≤ 4 → places_of (filled list) ≡ list
+filled_within [] few = refl
+filled_within (a ∷ []) few = refl
+filled_within (a ∷ b ∷ []) few = refl
+filled_within (a ∷ b ∷ c ∷ []) few = refl
+filled_within (a ∷ b ∷ c ∷ d ∷ []) few = refl
+filled_within (a ∷ b ∷ c ∷ d ∷ e ∷ rest) few = absurd (omega arith)
+
+-- what a list of places was filled to
+pub read_filled : (list given : List Place) (words : List (List ℕ)) (places : Places) → places ≡ filled given → given ≡ list → map place_text list ≡ words → length list ≤ 4
+    → AllByRecursion IsPlace list → (map place_text (places_of places) ≡ words) × ArePlaces places
+read_filled list given words places e f shown few within =
+    let same : places_of places ≡ list = ap places_of (e ∙ ap filled f) ∙ filled_within list few in
+    (ap (map place_text) same ∙ shown, let P : List Place → Type 0 = λ ps. AllByRecursion IsPlace ps in subst P (sym same) within)

@@ -4,3 +4,6 @@ pub mod Sending
 pub mod Openings
 pub mod Fields
 pub mod Heads
+pub mod Told
+pub mod Answers
+pub mod States

@@ -7,10 +7,15 @@ mod head;
 mod line;
 mod lists;
 mod mentions;
+mod open;
 mod place_list;
+mod plan_lines;
 mod pushing;
+mod refused;
+mod steps;
 mod tails;
 mod words;
 mod writing;
 
+pub use refused::JournalRefused;
 pub use writing::write_journal;

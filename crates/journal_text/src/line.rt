@@ -1,6 +1,5 @@
 // A line as what it begins.
 ghost use Rattle.std.specs.Prelude.{◌≡◌, [], ◌∷◌, List, Some, IfSome};
-ghost use Rattle.std.specs.Str.{bytes_eq};
 ghost use Rattle.cht_ids.specs.Lines.{pieces_of};
 ghost use Rattle.journal_text.specs.declared.head.Head.{Head as AnyHead};
 ghost use Rattle.journal_text.specs.Heads.{words_left, verb_named, verb_of, tail_words, head_words, IsHead};
@@ -10,7 +9,7 @@ use crate::tails::{
     read_ask, read_caller, read_collect, read_copy, read_end, read_finish, read_register,
     read_step, read_subject,
 };
-use crate::words::{Words, next_word, words_of};
+use crate::words::{Words, is, next_word, words_of};
 use task_types::Kinds;
 
 // The first line of an event or the last line of a text, and nothing where a line is neither.
@@ -20,12 +19,6 @@ pub(crate) fn read_head<K: Kinds>(line: &[u8]) -> Option<Head<K>>
 {
     let (word, words) = next_word(words_of(line))?;
     read_tail(read_verb(word)?, words)
-}
-
-fn is(word: &[u8], name: &[u8]) -> bool
-    ensures { result ≡ bytes_eq word.now name.now }
-{
-    word == name
 }
 
 fn read_verb(word: &[u8]) -> Option<Verb>

@@ -4,9 +4,11 @@ ghost use Rattle.std.specs.List.{AllByRecursion};
 ghost use Rattle.cht_ids.specs.declared.refs.Ref.{Ref as AnyRef};
 ghost use Rattle.cht_ids.specs.Refs.{ref_text};
 ghost use Rattle.task_types.specs.declared.outcome.Place.{Place as AnyPlace};
-ghost use Rattle.task_types.specs.Places.{filled};
+ghost use Rattle.task_types.specs.declared.outcome.Places.{Places as AnyPlaces};
+ghost use Rattle.task_types.specs.Places.{places_of};
 ghost use Rattle.journal_text.specs.Text.{place_text};
-ghost use Rattle.journal_text.specs.Bounds.{AreMentions, IsPlace};
+ghost use Rattle.journal_text.specs.Bounds.{AreMentions, IsPlace, ArePlaces};
+ghost use Rattle.journal_text.specs.Told.{told_places};
 ghost use Rattle.journal_text.specs.Heads.{words_left};
 
 use crate::mentions::Mentions;
@@ -34,8 +36,8 @@ pub(crate) fn read_mentions(words: Words) -> Option<Mentions>
 
 // At most four places, and no other words.
 pub(crate) fn read_places(words: Words) -> Option<Places>
-    ensures read { IfSome result (λ places. (list : List AnyPlace) × (places ≡ filled list) × (map place_text list ≡ words_left words.entry.more words.entry.rest.now) × (length list ≤ 4) × AllByRecursion IsPlace list) }
-    ensures every { (list : List AnyPlace) → length list ≤ 4 → AllByRecursion IsPlace list → map place_text list ≡ words_left words.entry.more words.entry.rest.now → result ≡ Some (filled list) }
+    ensures read { IfSome result (λ places. (map place_text (places_of places) ≡ words_left words.entry.more words.entry.rest.now) × ArePlaces places) }
+    ensures every { (places : AnyPlaces) → ArePlaces places → map place_text (places_of places) ≡ words_left words.entry.more words.entry.rest.now → result ≡ Some (told_places places) }
 {
     let list = list_places(words)?;
     Some(Places::of(list.as_slice()))

@@ -1,6 +1,7 @@
 // The words of a line, one after another. Each reader answers what it read with the words behind it, and nothing where the next word is
 // the text of nothing within bounds.
 ghost use Rattle.std.specs.Prelude.{◌≡◌, ◌<◌, ◌≤◌, ◌^◌, [], ◌∷◌, ℕ, List, Some, true, IfSome, IfNone, MatchOption, IsTrue, ◌↔◌};
+ghost use Rattle.std.specs.Str.{bytes_eq};
 ghost use Rattle.cht_ids.specs.declared.refs.Id.{Id as AnyId};
 ghost use Rattle.cht_ids.specs.declared.refs.Ref.{Ref as AnyRef};
 ghost use Rattle.cht_ids.specs.Lines.{pieces_of};
@@ -56,6 +57,13 @@ pub(crate) fn are_read(words: Words) -> bool
     ensures { IsTrue result ↔ (words_left words.entry.more words.entry.rest.now ≡ []) }
 {
     next_word(words).is_none()
+}
+
+// Whether a word is this one.
+pub(crate) fn is(word: &[u8], name: &[u8]) -> bool
+    ensures { result ≡ bytes_eq word.now name.now }
+{
+    word == name
 }
 
 // A caller or a worker.
