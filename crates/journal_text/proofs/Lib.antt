@@ -6,3 +6,6 @@ pub mod Finishes
 pub mod Heads
 pub mod GoesOn
 pub mod Advance
+pub mod LineTexts
+pub mod Completed
+pub mod Passed

@@ -11,11 +11,13 @@ mod open;
 mod place_list;
 mod plan_lines;
 mod pushing;
+mod reading;
 mod refused;
 mod steps;
 mod tails;
 mod words;
 mod writing;
 
+pub use reading::read_journal;
 pub use refused::JournalRefused;
 pub use writing::write_journal;
