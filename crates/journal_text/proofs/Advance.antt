@@ -12,17 +12,16 @@ use Rattle.cht_history.specs.declared.event.Event.TheVariants.{Finish as FinishE
 use Rattle.journal_text.specs.declared.head.Head.{Head}
 use Rattle.journal_text.specs.declared.head.Head.TheVariants.{Register, Copy, Delete, Ask, Collect, Abandon, Stop, Start, GiveBack, Finish, End}
 use Rattle.journal_text.specs.declared.open.Open.{Open}
-use Rattle.journal_text.specs.declared.open.Begun.{Begun}
 use Rattle.journal_text.specs.declared.open.Begun.TheVariants.{Whole, Part, Last}
 use Rattle.journal_text.specs.declared.open.Halt.{Halt}
 use Rattle.journal_text.specs.declared.open.Halt.TheVariants.{Wrong, Ended, NoMemory}
-use Rattle.journal_text.specs.Text.{chunk_words, task_words, event_words, event_lines, further_lines, last_words}
+use Rattle.journal_text.specs.Text.{chunk_words, task_words, event_words, event_lines, last_words}
 use Rattle.journal_text.specs.Bounds.{ArePlaces, IsTask, IsWithin, AreWithin}
 use Rattle.journal_text.specs.Heads.{head_words, IsHead}
 use Rattle.journal_text.specs.Told.{told, told_places, told_task}
-use Rattle.journal_text.specs.States.{closed, chunk_taken, task_taken, open_lines, lines_read, GoesOn, IsOpen, MayBeOpen, begun_of, IsAdded, IsSettled, IsStep}
+use Rattle.journal_text.specs.States.{closed, chunk_taken, task_taken, open_lines, lines_read, GoesOn, IsOpen, begun_of, IsAdded, IsSettled, IsStep}
 use Rattle.journal_text.proofs.Heads.{head_of, event_at, words_at, alone_at, head_within}
-use Rattle.journal_text.proofs.GoesOn.{nothing_in, from_events, event_on, last_on, finish_on, none_next, opened}
+use Rattle.journal_text.proofs.GoesOn.{nothing_in, from_events, event_on, last_on, finish_on, opened}
 
 -- what holds of each item holds with one more
 all_more : {X : Type 0} (P : X → Type 0) (xs : List X) (x : X) → AllByRecursion P xs → P x → AllByRecursion P (xs ++ x ∷ [])
@@ -99,7 +98,7 @@ module _ {K : Type 0} (name_of : K → List ℕ) (height_of : K → ℕ) where
       let P : Option (Open K) → Type 0 = λ o. IsSettled name_of height_of events it (Ok o) now in
       let Q : List (Event K) → Type 0 = λ es. IsSettled name_of height_of events it (Ok None) es in
       subst P (sym added.0) (subst Q (sym added.1)
-          (close_lines events it none_c none_t, added_within events (event_of it) within (close_within it is none_c none_t), tt, close_on events it none_c none_t))
+      (close_lines events it none_c none_t, added_within events (event_of it) within (close_within it is none_c none_t), tt, close_on events it none_c none_t))
   settled events it (Err Wrong) now added within is none_c none_t = added
   settled events it (Err Ended) now added within is none_c none_t = added
   settled events it (Err NoMemory) now added within is none_c none_t = tt
@@ -126,13 +125,16 @@ module _ {K : Type 0} (name_of : K → List ℕ) (height_of : K → ℕ) where
       let Q : List (Event K) → Type 0 = λ es. IsStep name_of height_of events None words (Ok None) es in
       let first : event_words name_of height_of one ≡ words = sym (words_at name_of height_of one) ∙ ap (head_words name_of height_of) (sym at.1) ∙ shown in
       let lines = added_lines events one
-          ∙ ap (λ xs. flat_map (event_lines name_of height_of) events ++ event_words name_of height_of one ∷ xs) (alone_at name_of height_of one one here)
-          ∙ ap (λ ws. flat_map (event_lines name_of height_of) events ++ ws ∷ []) first
-          ∙ ap (λ xs. xs ++ words ∷ []) (sym (append-nil (flat_map (event_lines name_of height_of) events))) in
+      ∙ ap (λ xs. flat_map (event_lines name_of height_of) events ++ event_words name_of height_of one ∷ xs) (alone_at name_of height_of one one here)
+      ∙ ap (λ ws. flat_map (event_lines name_of height_of) events ++ ws ∷ []) first
+      ∙ ap (λ xs. xs ++ words ∷ []) (sym (append-nil (flat_map (event_lines name_of height_of) events))) in
       let R : Head K → Type 0 = λ h. IsHead height_of h in
-      subst P (sym added.0) (subst Q (sym added.1)
-          (lines, added_within events one within (head_within height_of one one here (subst R at.1 is)), tt,
-          event_on name_of height_of events words one head few at.0 (λ other w e. some_same head other (every other w e))))
+      subst P (sym added.0) (subst Q (sym added.1) (
+        lines,
+        added_within events one within (head_within height_of one one here (subst R at.1 is)),
+        tt,
+        event_on name_of height_of events words one head few at.0 (λ other w e. some_same head other (every other w e)),
+      ))
   step_whole events words head one (Err Wrong) now added whole shown is every few within = absurd added
   step_whole events words head one (Err Ended) now added whole shown is every few within = absurd added
   step_whole events words head one (Err NoMemory) now added whole shown is every few within = tt
@@ -167,9 +169,9 @@ module _ {K : Type 0} (name_of : K → List ℕ) (height_of : K → ℕ) where
       let none_t : 0 + tasks ≡ tasks = omega arith in
       let first : lines_read name_of height_of events (Some (opened worker task chunks tasks place)) ≡ flat_map (event_lines name_of height_of) events ++ head_words name_of height_of (Finish worker task chunks tasks place) ∷ [] = cc in
       let lines = first ∙ ap (λ ws. flat_map (event_lines name_of height_of) events ++ ws ∷ []) shown
-          ∙ ap (λ xs. xs ++ words ∷ []) (sym (append-nil (flat_map (event_lines name_of height_of) events))) in
+      ∙ ap (λ xs. xs ++ words ∷ []) (sym (append-nil (flat_map (event_lines name_of height_of) events))) in
       step_settled events None words (opened worker task chunks tasks place) result now s lines
-          (finish_on name_of height_of events words worker task chunks tasks place few (λ other w e. some_same (Finish worker task chunks tasks place) other (every other w e)))
+      (finish_on name_of height_of events words worker task chunks tasks place few (λ other w e. some_same (Finish worker task chunks tasks place) other (every other w e)))
 
   -- a step that begins a finish
   pub step_part : (events : List (Event K)) (words : List (List ℕ)) (head : Head K) (it : Open K) (result : Result (Option (Open K)) Halt) (now : List (Event K))
@@ -244,7 +246,7 @@ module _ {K : Type 0} (name_of : K → List ℕ) (height_of : K → ℕ) where
   chunk_lines events it place more none =
       let count : length (it.chunks ++ place ∷ []) + (it.chunks_left - 1) ≡ length it.chunks + it.chunks_left = omega (arith, length-append it.chunks (place ∷ [])) in
       let chunks : map chunk_words (it.chunks ++ place ∷ []) ++ [] ≡ (map chunk_words it.chunks ++ []) ++ chunk_words place ∷ [] =
-          append-nil (map chunk_words (it.chunks ++ place ∷ [])) ∙ map-append chunk_words it.chunks (place ∷ []) ∙ ap (λ xs. xs ++ chunk_words place ∷ []) (sym (append-nil (map chunk_words it.chunks))) in
+      append-nil (map chunk_words (it.chunks ++ place ∷ [])) ∙ map-append chunk_words it.chunks (place ∷ []) ∙ ap (λ xs. xs ++ chunk_words place ∷ []) (sym (append-nil (map chunk_words it.chunks))) in
       let P : List (NewTask K) → Type 0 = λ tasks. map chunk_words (it.chunks ++ place ∷ []) ++ map (task_words name_of height_of) tasks ≡ (map chunk_words it.chunks ++ map (task_words name_of height_of) tasks) ++ chunk_words place ∷ [] in
       let both = subst P (sym none) chunks in
       let whole : open_lines name_of height_of (Some (chunk_taken it place)) ≡ open_lines name_of height_of (Some it) ++ chunk_words place ∷ [] = cc in
@@ -256,8 +258,8 @@ module _ {K : Type 0} (name_of : K → List ℕ) (height_of : K → ℕ) where
   task_lines events it task more =
       let count : length (it.tasks ++ task ∷ []) + (it.tasks_left - 1) ≡ length it.tasks + it.tasks_left = omega (arith, length-append it.tasks (task ∷ [])) in
       let both : map chunk_words it.chunks ++ map (task_words name_of height_of) (it.tasks ++ task ∷ []) ≡ (map chunk_words it.chunks ++ map (task_words name_of height_of) it.tasks) ++ task_words name_of height_of task ∷ [] =
-          ap (λ xs. map chunk_words it.chunks ++ xs) (map-append (task_words name_of height_of) it.tasks (task ∷ []))
-          ∙ sym (append_assoc (map chunk_words it.chunks) (map (task_words name_of height_of) it.tasks) (task_words name_of height_of task ∷ [])) in
+      ap (λ xs. map chunk_words it.chunks ++ xs) (map-append (task_words name_of height_of) it.tasks (task ∷ []))
+      ∙ sym (append_assoc (map chunk_words it.chunks) (map (task_words name_of height_of) it.tasks) (task_words name_of height_of task ∷ [])) in
       let whole : open_lines name_of height_of (Some (task_taken it task)) ≡ open_lines name_of height_of (Some it) ++ task_words name_of height_of task ∷ [] = cc in
       ap (λ xs. flat_map (event_lines name_of height_of) events ++ xs) whole
       ∙ sym (append_assoc (flat_map (event_lines name_of height_of) events) (open_lines name_of height_of (Some it)) (task_words name_of height_of task ∷ []))
@@ -302,19 +304,24 @@ module _ {K : Type 0} (name_of : K → List ℕ) (height_of : K → ℕ) where
           → (chunk : Places) × ArePlaces chunk × (words ≡ chunk_words chunk)
           × ((place : Places) → place ≡ told_places chunk → GoesOn name_of height_of events (Some (chunk_taken it place)) rest all)
       go [] many within e f = absurd (omega (arith, many, more))
-      go (chunk ∷ chunks) many within e f = (chunk, within.0, cc, λ place same. record {
-        chunks = chunks;
-        tasks = on.tasks;
-        more = on.more;
-        chunks_many = omega (arith, many);
-        tasks_many = on.tasks_many;
-        chunks_within = within.1;
-        tasks_within = on.tasks_within;
-        within = on.within;
-        all_are = e ∙ ap (λ cs. (events ++ FinishEvent it.worker it.task cs (it.tasks ++ map told_task on.tasks) it.result ∷ []) ++ map told on.more)
-            (ap (λ one. it.chunks ++ one ∷ map told_places chunks) (sym same) ∙ sym (append_assoc it.chunks (place ∷ []) (map told_places chunks)));
-        lines_are = cc;
-      })
+      go (chunk ∷ chunks) many within e f = (
+        chunk,
+        within.0,
+        cc,
+        λ place same. record {
+          chunks = chunks;
+          tasks = on.tasks;
+          more = on.more;
+          chunks_many = omega (arith, many);
+          tasks_many = on.tasks_many;
+          chunks_within = within.1;
+          tasks_within = on.tasks_within;
+          within = on.within;
+          all_are = e ∙ ap (λ cs. (events ++ FinishEvent it.worker it.task cs (it.tasks ++ map told_task on.tasks) it.result ∷ []) ++ map told on.more)
+              (ap (λ one. it.chunks ++ one ∷ map told_places chunks) (sym same) ∙ sym (append_assoc it.chunks (place ∷ []) (map told_places chunks)));
+          lines_are = cc;
+        },
+      )
 
   pub chunk_none : (events : List (Event K)) (it : Open K) (words : List (List ℕ)) → 0 < it.chunks_left → ((chunk : Places) → ArePlaces chunk → chunk_words chunk ≡ words → ⊥)
       → (rest : List (List (List ℕ))) (all : List (Event K)) → GoesOn name_of height_of events (Some it) (words ∷ rest) all → ⊥
@@ -330,11 +337,11 @@ module _ {K : Type 0} (name_of : K → List ℕ) (height_of : K → ℕ) where
   step_chunk events it words place now_open result now same s is more shown every =
       let P : Open K → Type 0 = λ o. IsSettled name_of height_of events o result now in
       step_settled events (Some it) words (chunk_taken it place) result now (subst P same s)
-          (chunk_lines events it place more (is.order more) ∙ ap (λ ws. lines_read name_of height_of events (Some it) ++ ws ∷ []) shown)
-          (λ rest all on.
-              let first = chunk_first events it words rest all on more in
-              let one : Some place ≡ Some (told_places first.0) = every first.0 first.1 (sym first.2) in
-              first.3 place cc)
+      (chunk_lines events it place more (is.order more) ∙ ap (λ ws. lines_read name_of height_of events (Some it) ++ ws ∷ []) shown)
+      (λ rest all on.
+      let first = chunk_first events it words rest all on more in
+      let one : Some place ≡ Some (told_places first.0) = every first.0 first.1 (sym first.2) in
+      first.3 place cc)
 
   -- the line of a task, where no chunk and a task is to come
   task_first : (events : List (Event K)) (it : Open K) (words : List (List ℕ)) (rest : List (List (List ℕ))) (all : List (Event K)) → GoesOn name_of height_of events (Some it) (words ∷ rest) all
@@ -349,19 +356,24 @@ module _ {K : Type 0} (name_of : K → List ℕ) (height_of : K → ℕ) where
           × ((new : NewTask K) → new ≡ told_task task → GoesOn name_of height_of events (Some (task_taken it new)) rest all)
       go (chunk ∷ chunks) tasks c many within e f = absurd (cc c)
       go [] [] c many within e f = absurd (omega (arith, many, more))
-      go [] (task ∷ tasks) c many within e f = (task, within.0, cc, λ new same. record {
-        chunks = [];
-        tasks = tasks;
-        more = on.more;
-        chunks_many = sym none;
-        tasks_many = omega (arith, many);
-        chunks_within = tt;
-        tasks_within = within.1;
-        within = on.within;
-        all_are = e ∙ ap (λ ts. (events ++ FinishEvent it.worker it.task (it.chunks ++ []) ts it.result ∷ []) ++ map told on.more)
-            (ap (λ one. it.tasks ++ one ∷ map told_task tasks) (sym same) ∙ sym (append_assoc it.tasks (new ∷ []) (map told_task tasks)));
-        lines_are = cc;
-      })
+      go [] (task ∷ tasks) c many within e f = (
+        task,
+        within.0,
+        cc,
+        λ new same. record {
+          chunks = [];
+          tasks = tasks;
+          more = on.more;
+          chunks_many = sym none;
+          tasks_many = omega (arith, many);
+          chunks_within = tt;
+          tasks_within = within.1;
+          within = on.within;
+          all_are = e ∙ ap (λ ts. (events ++ FinishEvent it.worker it.task (it.chunks ++ []) ts it.result ∷ []) ++ map told on.more)
+              (ap (λ one. it.tasks ++ one ∷ map told_task tasks) (sym same) ∙ sym (append_assoc it.tasks (new ∷ []) (map told_task tasks)));
+          lines_are = cc;
+        },
+      )
 
   pub task_none : (events : List (Event K)) (it : Open K) (words : List (List ℕ)) → it.chunks_left ≡ 0 → 0 < it.tasks_left
       → ((task : NewTask K) → IsTask height_of task → task_words name_of height_of task ≡ words → ⊥)
@@ -377,8 +389,8 @@ module _ {K : Type 0} (name_of : K → List ℕ) (height_of : K → ℕ) where
   step_task events it words new now_open result now same s none more shown every =
       let P : Open K → Type 0 = λ o. IsSettled name_of height_of events o result now in
       step_settled events (Some it) words (task_taken it new) result now (subst P same s)
-          (task_lines events it new more ∙ ap (λ ws. lines_read name_of height_of events (Some it) ++ ws ∷ []) shown)
-          (λ rest all on.
-              let first = task_first events it words rest all on none more in
-              let one : Some new ≡ Some (told_task first.0) = every first.0 first.1 (sym first.2) in
-              first.3 new cc)
+      (task_lines events it new more ∙ ap (λ ws. lines_read name_of height_of events (Some it) ++ ws ∷ []) shown)
+      (λ rest all on.
+      let first = task_first events it words rest all on none more in
+      let one : Some new ≡ Some (told_task first.0) = every first.0 first.1 (sym first.2) in
+      first.3 new cc)

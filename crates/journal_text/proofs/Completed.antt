@@ -1,5 +1,5 @@
 -- From each state that a reader comes to, a journal's text can go on.
-use Rattle.std.proofs.Common.{◌≡◌, ◌⊎◌, inl, inr, ℕ, zero, suc, ◌+◌, ◌<◌, ◌^◌, List, [], ◌∷◌, ◌++◌, length, Option, None, Some, refl, sym, ap, ◌∙◌, subst, arith, length-append}
+use Rattle.std.proofs.Common.{◌≡◌, ◌⊎◌, inl, inr, ℕ, zero, suc, ◌+◌, List, [], ◌∷◌, ◌++◌, length, Option, None, Some, refl, sym, ap, ◌∙◌, arith, length-append}
 use Rattle.std.specs.Prelude.{map}
 use Rattle.std.specs.List.{flat_map, AllByRecursion}
 use Rattle.std.proofs.lemmas.List.{append_assoc, append-nil, map-append}
@@ -62,10 +62,10 @@ module _ {K : Type 0} (name_of : K → List ℕ) (height_of : K → ℕ) where
       let count_t : length it.tasks + it.tasks_left ≡ length (it.tasks ++ tasks) = omega (arith, many_t, length-append it.tasks tasks) in
       let first : open_lines name_of height_of (Some it) ≡ event_words name_of height_of (closed it chunks tasks) ∷ map chunk_words it.chunks ++ map (task_words name_of height_of) it.tasks = cc in
       let rest : (map chunk_words it.chunks ++ map (task_words name_of height_of) it.tasks) ++ (map chunk_words chunks ++ (map (task_words name_of height_of) tasks ++ last ∷ []))
-          ≡ (map chunk_words (it.chunks ++ chunks) ++ map (task_words name_of height_of) (it.tasks ++ tasks)) ++ last ∷ [] =
-          rejoined (map chunk_words it.chunks) (map chunk_words chunks) (map (task_words name_of height_of) it.tasks) (map (task_words name_of height_of) tasks) (last ∷ []) (map_either either)
-          ∙ ap (λ xs. (xs ++ (map (task_words name_of height_of) it.tasks ++ map (task_words name_of height_of) tasks)) ++ last ∷ []) (sym (map-append chunk_words it.chunks chunks))
-          ∙ ap (λ xs. (map chunk_words (it.chunks ++ chunks) ++ xs) ++ last ∷ []) (sym (map-append (task_words name_of height_of) it.tasks tasks)) in
+      ≡ (map chunk_words (it.chunks ++ chunks) ++ map (task_words name_of height_of) (it.tasks ++ tasks)) ++ last ∷ [] =
+      rejoined (map chunk_words it.chunks) (map chunk_words chunks) (map (task_words name_of height_of) it.tasks) (map (task_words name_of height_of) tasks) (last ∷ []) (map_either either)
+      ∙ ap (λ xs. (xs ++ (map (task_words name_of height_of) it.tasks ++ map (task_words name_of height_of) tasks)) ++ last ∷ []) (sym (map-append chunk_words it.chunks chunks))
+      ∙ ap (λ xs. (map chunk_words (it.chunks ++ chunks) ++ xs) ++ last ∷ []) (sym (map-append (task_words name_of height_of) it.tasks tasks)) in
       ap (λ xs. first_words ∷ ((flat ++ xs) ++ (map chunk_words chunks ++ (map (task_words name_of height_of) tasks ++ last ∷ [])))) first
       ∙ ap (λ xs. first_words ∷ xs) (append_assoc flat (event_words name_of height_of (closed it chunks tasks) ∷ map chunk_words it.chunks ++ map (task_words name_of height_of) it.tasks) (map chunk_words chunks ++ (map (task_words name_of height_of) tasks ++ last ∷ [])))
       ∙ ap (λ xs. first_words ∷ (flat ++ event_words name_of height_of (closed it chunks tasks) ∷ xs)) rest
@@ -87,9 +87,18 @@ module _ {K : Type 0} (name_of : K → List ℕ) (height_of : K → ℕ) where
       let many_t = length_repeated it.tasks_left task in
       record {
         events = events ++ closed it chunks tasks ∷ [];
-        within = all_join (IsWithin height_of) events (closed it chunks tasks ∷ []) within
-            ((is.worker, is.task, omega (arith, many_c, is.chunks_few, length-append it.chunks chunks), all_join ArePlaces it.chunks chunks is.chunks (all_repeated ArePlaces it.chunks_left empty tt),
-            omega (arith, many_t, is.tasks_few, length-append it.tasks tasks), all_join (IsTask height_of) it.tasks tasks is.tasks (all_repeated (IsTask height_of) it.tasks_left task (low, tt)), is.result), tt);
+        within = all_join (IsWithin height_of) events (closed it chunks tasks ∷ []) within (
+          (
+            is.worker,
+            is.task,
+            omega (arith, many_c, is.chunks_few, length-append it.chunks chunks),
+            all_join ArePlaces it.chunks chunks is.chunks (all_repeated ArePlaces it.chunks_left empty tt),
+            omega (arith, many_t, is.tasks_few, length-append it.tasks tasks),
+            all_join (IsTask height_of) it.tasks tasks is.tasks (all_repeated (IsTask height_of) it.tasks_left task (low, tt)),
+            is.result,
+          ),
+          tt,
+        );
         behind = map chunk_words chunks ++ (map (task_words name_of height_of) tasks ++ last_words (length (events ++ closed it chunks tasks ∷ [])) ∷ []);
         lines = amid_lines events it chunks tasks many_c many_t (either it.chunks_left refl);
       }

@@ -5,7 +5,6 @@ use Rattle.std.specs.List.{AllByRecursion}
 use Rattle.task_types.specs.declared.outcome.Places.{Places}
 use Rattle.task_types.specs.Places.{places_of, filled}
 use Rattle.task_types.specs.declared.outcome.Place.{Place}
-use Rattle.journal_text.specs.declared.head.Verb.{Verb}
 use Rattle.journal_text.specs.declared.head.Verb.TheVariants.{Finish as FinishVerb}
 use Rattle.journal_text.specs.declared.head.Head.{Head}
 use Rattle.journal_text.specs.declared.head.Head.TheVariants.{Finish}

@@ -1,21 +1,21 @@
 -- How the lines that go on from a state go on from the next one.
-use Rattle.std.proofs.Common.{◌≡◌, ℕ, zero, suc, ◌+◌, ◌-◌, ◌<◌, ◌^◌, List, [], ◌∷◌, ◌++◌, length, Option, None, Some, refl, sym, ap, ◌∙◌, subst, arith, length-append}
+use Rattle.std.proofs.Common.{◌≡◌, ℕ, ◌<◌, ◌^◌, List, [], ◌∷◌, ◌++◌, length, None, Some, refl, sym, ap, ◌∙◌, arith}
 use Rattle.std.specs.Prelude.{map}
-use Rattle.std.specs.List.{flat_map, AllByRecursion}
+use Rattle.std.specs.List.{flat_map}
 use Rattle.std.proofs.lemmas.List.{append_assoc, append-nil}
 use Rattle.task_types.specs.declared.outcome.Place.{Place}
 use Rattle.task_types.specs.declared.outcome.Places.{Places}
 use Rattle.task_types.specs.declared.outcome.NewTask.{NewTask}
 use Rattle.cht_history.specs.declared.event.Event.{Event}
-use Rattle.cht_history.specs.declared.event.Event.TheVariants.{Register as RegisterEvent, Copy as CopyEvent, Delete as DeleteEvent, Ask as AskEvent, Collect as CollectEvent, Abandon as AbandonEvent, Stop as StopEvent, Start as StartEvent, GiveBack as GiveBackEvent, Finish as FinishEvent}
+use Rattle.cht_history.specs.declared.event.Event.TheVariants.{Finish as FinishEvent}
 use Rattle.journal_text.specs.declared.head.Head.{Head}
 use Rattle.journal_text.specs.declared.head.Head.TheVariants.{Finish, End}
 use Rattle.journal_text.specs.declared.open.Open.{Open}
 use Rattle.journal_text.specs.Text.{chunk_words, task_words, event_words, further_lines, event_lines, last_words}
-use Rattle.journal_text.specs.Bounds.{ArePlaces, IsTask, IsWithin, AreWithin}
+use Rattle.journal_text.specs.Bounds.{IsWithin, AreWithin}
 use Rattle.journal_text.specs.Heads.{head_words, IsHead}
-use Rattle.journal_text.specs.Told.{told, told_places, told_task}
-use Rattle.journal_text.specs.States.{closing, GoesOn}
+use Rattle.journal_text.specs.Told.{told}
+use Rattle.journal_text.specs.States.{GoesOn}
 use Rattle.journal_text.proofs.Heads.{head_of, event_at, not_end, told_at, words_at, alone_at, within_head}
 
 pub nothing_in : {X : Type 0} (xs : List X) → length xs ≡ 0 → xs ≡ []
@@ -83,8 +83,8 @@ module _ {K : Type 0} (name_of : K → List ℕ) (height_of : K → ℕ) where
       let here : words ≡ event_words name_of height_of one = cc in
       let there : rest ≡ (further_lines name_of height_of one ++ flat_map (event_lines name_of height_of) more) ++ last_words (length all) ∷ [] = cc in
       event one more within.0 within.1 (here ∙ sym (words_at name_of height_of one))
-          (there ∙ append_assoc (further_lines name_of height_of one) (flat_map (event_lines name_of height_of) more) (last_words (length all) ∷ []))
-          (e ∙ sym (append_assoc events (told one ∷ []) (map told more)))
+      (there ∙ append_assoc (further_lines name_of height_of one) (flat_map (event_lines name_of height_of) more) (last_words (length all) ∷ []))
+      (e ∙ sym (append_assoc events (told one ∷ []) (map told more)))
 
   pub next : (events : List (Event K)) (words : List (List ℕ)) (rest : List (List (List ℕ))) (all : List (Event K)) → GoesOn name_of height_of events None (words ∷ rest) all
       → Next events words rest all

@@ -1,5 +1,5 @@
 -- Events and the first lines that tell of them.
-use Rattle.std.proofs.Common.{◌≡◌, ℕ, ◌<◌, ◌^◌, List, [], ◌∷◌, length, Option, None, Some, Bool, true, false, refl, arith}
+use Rattle.std.proofs.Common.{◌≡◌, ℕ, List, [], length, Option, None, Some, refl}
 use Rattle.cht_history.specs.declared.event.Event.{Event}
 use Rattle.cht_history.specs.declared.event.Event.TheVariants.{Register as RegisterEvent, Copy as CopyEvent, Delete as DeleteEvent, Ask as AskEvent, Collect as CollectEvent, Abandon as AbandonEvent, Stop as StopEvent, Start as StartEvent, GiveBack as GiveBackEvent, Finish as FinishEvent}
 use Rattle.journal_text.specs.declared.head.Head.{Head}

@@ -1,5 +1,5 @@
 -- Lines as their words, and texts as their lines.
-use Rattle.std.proofs.Common.{◌≡◌, ℕ, zero, suc, ◌+◌, ◌<◌, ◌≤◌, ◌^◌, Bool, true, false, cond, eqb, List, [], ◌∷◌, ◌++◌, length, refl, sym, ap, ◌∙◌, subst, arith, length-append}
+use Rattle.std.proofs.Common.{◌≡◌, ℕ, ◌<◌, ◌≤◌, ◌^◌, Bool, true, false, cond, List, [], ◌∷◌, ◌++◌, length, refl, sym, ap, ◌∙◌, arith, length-append}
 use Rattle.std.specs.Prelude.{map, ◌==◌, nat_lt}
 use Rattle.std.specs.List.{flat_map, list_all, AllByRecursion}
 use Rattle.std.proofs.lemmas.List.{append_assoc, append-nil}
@@ -47,8 +47,8 @@ line_again [] = refl
 line_again (byte ∷ rest) =
     let some = pieces_some rest in
     cond_both (byte == 32) ([] ∷ pieces_of rest) (onto_first byte (pieces_of rest)) (λ pieces. line_of pieces ≡ byte ∷ rest)
-        (λ e. space_front byte rest some.0 some.1 some.2 (line_again rest) (is_space byte e))
-        (λ e. byte_front byte rest some.0 some.1 some.2 (line_again rest))
+    (λ e. space_front byte rest some.0 some.1 some.2 (line_again rest) (is_space byte e))
+    (λ e. byte_front byte rest some.0 some.1 some.2 (line_again rest))
 
 -- ---- The end of a text
 
@@ -222,9 +222,10 @@ module _ {K : Type 0} (name_of : K → List ℕ) (height_of : K → ℕ) where
   event_proper named (Stop caller) is = ((omega arith, (refl, (number_word caller (omega (arith, is)), tt))), tt)
   event_proper named (Start worker task) is = ((omega arith, (refl, (number_word worker (omega (arith, is.0)), (number_word task (omega (arith, is.1.1)), tt)))), tt)
   event_proper named (GiveBack worker task) is = ((omega arith, (refl, (number_word worker (omega (arith, is.0)), (number_word task (omega (arith, is.1.1)), tt)))), tt)
-  event_proper named (Finish worker task chunks tasks result) is =
-      ((omega arith, (refl, (number_word worker (omega (arith, is.0)), (number_word task (omega (arith, is.1.1)), (number_word (length chunks) (omega (arith, is.2)), (number_word (length tasks) (omega (arith, is.4)), (place_word result is.6, tt))))))),
-      rows_join (map chunk_words chunks) (map (task_words name_of height_of) tasks) (map_rows chunk_words ArePlaces chunks chunk_proper is.3) (map_rows (task_words name_of height_of) (IsTask height_of) tasks (task_proper named) is.5))
+  event_proper named (Finish worker task chunks tasks result) is = (
+    (omega arith, (refl, (number_word worker (omega (arith, is.0)), (number_word task (omega (arith, is.1.1)), (number_word (length chunks) (omega (arith, is.2)), (number_word (length tasks) (omega (arith, is.4)), (place_word result is.6, tt))))))),
+    rows_join (map chunk_words chunks) (map (task_words name_of height_of) tasks) (map_rows chunk_words ArePlaces chunks chunk_proper is.3) (map_rows (task_words name_of height_of) (IsTask height_of) tasks (task_proper named) is.5),
+  )
 
   events_proper : Named name_of → (events : List (Event K)) → AreWithin height_of events → AllByRecursion IsProper (flat_map (event_lines name_of height_of) events)
   events_proper named [] within = tt
@@ -247,9 +248,11 @@ module _ {K : Type 0} (name_of : K → List ℕ) (height_of : K → ℕ) where
       let rows = rows_long (journal_lines name_of height_of events) in
       let many = events_long events in
       let low : length events < 10 ^ 64 = omega (arith, few, rows, many, length-append (flat_map (event_lines name_of height_of) events) (last_words (length events) ∷ [])) in
-      rows_again (journal_lines name_of height_of events)
-          (first_proper, rows_join (flat_map (event_lines name_of height_of) events) (last_words (length events) ∷ []) (events_proper named events within)
-              ((omega arith, (refl, (number_word (length events) low, tt))), tt))
+      rows_again (journal_lines name_of height_of events) (
+        first_proper,
+        rows_join (flat_map (event_lines name_of height_of) events) (last_words (length events) ∷ []) (events_proper named events within)
+            ((omega arith, (refl, (number_word (length events) low, tt))), tt),
+      )
 
   -- and a journal's text is ended
   pub ends_journal : (events : List (Event K)) → is_ended (journal_text name_of height_of events) ≡ true

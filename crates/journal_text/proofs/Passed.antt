@@ -1,6 +1,6 @@
 -- How far a text was read, between two lines, and what is answered from there.
-use Rattle.std.proofs.Common.{◌≡◌, ◌⊎◌, inl, inr, ℕ, suc, ◌+◌, ◌<◌, ◌≤◌, ◌^◌, Bool, true, false, cond, List, [], ◌∷◌, ◌++◌, length, Option, None, Some, Ok, Err, refl, sym, ap, ◌∙◌, subst, arith, length-append}
-use Rattle.std.specs.Prelude.{map, max, ◌==◌, codes}
+use Rattle.std.proofs.Common.{◌≡◌, inl, inr, ℕ, ◌+◌, ◌<◌, ◌≤◌, ◌^◌, Bool, true, false, cond, List, [], ◌∷◌, ◌++◌, length, Option, None, Ok, Err, refl, sym, ap, ◌∙◌, subst, arith, length-append}
+use Rattle.std.specs.Prelude.{map, ◌==◌, codes}
 use Rattle.std.specs.List.{flat_map}
 use Rattle.std.specs.Str.{bytes_eq}
 use Rattle.std.proofs.lemmas.Bool.{cond_both}
@@ -10,10 +10,10 @@ use Rattle.std.proofs.lemmas.List.Concat.{flat_map-append}
 use Rattle.cht_ids.specs.Lines.{ended_lines, pieces_of}
 use Rattle.cht_history.specs.declared.event.Event.{Event}
 use Rattle.journal_text.specs.declared.open.Open.{Open}
-use Rattle.journal_text.specs.declared.refused.JournalRefused.TheVariants.{NotJournal, Memory}
+use Rattle.journal_text.specs.declared.refused.JournalRefused.TheVariants.{NotJournal}
 use Rattle.journal_text.specs.Text.{line_of, ended_line, chunk_words, task_words, first_words, last_words, event_lines, journal_lines, journal_text}
-use Rattle.journal_text.specs.Bounds.{IsLow, AreWithin}
-use Rattle.journal_text.specs.Answers.{word_lines, is_ended, last_line, CanBegin, IsFirstWrong, IsNamed, IsAnswer}
+use Rattle.journal_text.specs.Bounds.{AreWithin}
+use Rattle.journal_text.specs.Answers.{word_lines, is_ended, last_line, CanBegin, IsNamed, IsAnswer}
 use Rattle.journal_text.specs.Told.{told}
 use Rattle.journal_text.specs.States.{lines_read, GoesOn, MayBeOpen}
 use Rattle.journal_text.proofs.GoesOn.{from_events}
@@ -109,7 +109,7 @@ module _ {K : Type 0} (name_of : K → List ℕ) (height_of : K → ℕ) where
       → flat_map ended_line (front ++ pieces_of line ∷ []) ++ rest ≡ bytes
   line_text front line rest left bytes e text =
       ap (λ xs. xs ++ rest) (flat_map-append ended_line front (pieces_of line ∷ []) ∙ ap (λ xs. flat_map ended_line front ++ xs) (append-nil (ended_line (pieces_of line)))
-          ∙ ap (λ xs. flat_map ended_line front ++ (xs ++ 10 ∷ [])) (line_again line))
+      ∙ ap (λ xs. flat_map ended_line front ++ (xs ++ 10 ∷ [])) (line_again line))
       ∙ append_assoc (flat_map ended_line front) (line ++ 10 ∷ []) rest
       ∙ ap (λ xs. flat_map ended_line front ++ xs) (append_assoc line (10 ∷ []) rest ∙ sym e)
       ∙ text
@@ -148,21 +148,22 @@ module _ {K : Type 0} (name_of : K → List ℕ) (height_of : K → ℕ) where
       → IsRead bytes passed left events it → ended_lines left ≡ line ∷ ended_lines rest
       → ((rest : List (List (List ℕ))) (all : List (Event K)) → GoesOn name_of height_of events it (pieces_of line ∷ rest) all → ⊥)
       → IsAnswer name_of height_of bytes (Err (NotJournal (passed + 1)))
-  answer_wrong bytes passed left events it line rest named few one cut none =
-      (λ all within e.
-          none (word_lines rest) (map told all)
-              (let P : List (List (List ℕ)) → Type 0 = λ lines. GoesOn name_of height_of events it lines (map told all) in
-              subst P (cut_words left line rest cut) (text_on bytes passed left events it named one few all within e)),
-      λ kind low. inl record {
-        front = front_of events it;
-        wrong = pieces_of line;
-        behind = word_lines rest;
-        split = one.lines ∙ ap (λ xs. front_of events it ++ xs) (cut_words left line rest cut);
-        place = ap (λ n. n + 1) one.count;
-        before = can_begin name_of height_of events it kind low one.within one.is_open;
-        none = λ other. none other.behind (map told other.events)
-            (one.goes other.events other.within (pieces_of line ∷ other.behind) (one_more (front_of events it) (pieces_of line) other.behind ∙ other.lines));
-      })
+  answer_wrong bytes passed left events it line rest named few one cut none = (
+    λ all within e.
+        none (word_lines rest) (map told all)
+        (let P : List (List (List ℕ)) → Type 0 = λ lines. GoesOn name_of height_of events it lines (map told all) in
+        subst P (cut_words left line rest cut) (text_on bytes passed left events it named one few all within e)),
+    λ kind low. inl record {
+      front = front_of events it;
+      wrong = pieces_of line;
+      behind = word_lines rest;
+      split = one.lines ∙ ap (λ xs. front_of events it ++ xs) (cut_words left line rest cut);
+      place = ap (λ n. n + 1) one.count;
+      before = can_begin name_of height_of events it kind low one.within one.is_open;
+      none = λ other. none other.behind (map told other.events)
+          (one.goes other.events other.within (pieces_of line ∷ other.behind) (one_more (front_of events it) (pieces_of line) other.behind ∙ other.lines));
+    },
+  )
 
   no_end : (a b c : List (List (List ℕ))) (d : List (List ℕ)) → 0 ≡ length (a ++ (b ++ (c ++ d ∷ []))) → ⊥
   no_end a b c d e = omega (arith, length-append a (b ++ (c ++ d ∷ [])), length-append b (c ++ d ∷ []), length-append c (d ∷ []))
@@ -176,14 +177,16 @@ module _ {K : Type 0} (name_of : K → List ℕ) (height_of : K → ℕ) where
       → IsAnswer name_of height_of bytes (Err (NotJournal line))
   answer_short bytes passed left events it line named few one none last =
       let nothing : word_lines left ≡ [] = ap (map pieces_of) none in
-      let whole : word_lines bytes ≡ front_of events it = one.lines ∙ ap (λ xs. front_of events it ++ xs) nothing ∙ append-nil (front_of events it) in
-      (λ all within e.
-          nothing_on events it (map told all)
-              (let P : List (List (List ℕ)) → Type 0 = λ lines. GoesOn name_of height_of events it lines (map told all) in
-              subst P nothing (text_on bytes passed left events it named one few all within e)),
-      λ kind low. inr (
+      let whole : word_lines bytes ≡ front_of events it = one.lines ∙ ap (λ xs. front_of events it ++ xs) nothing ∙ append-nil (front_of events it) in (
+        λ all within e.
+            nothing_on events it (map told all)
+            (let P : List (List (List ℕ)) → Type 0 = λ lines. GoesOn name_of height_of events it lines (map told all) in
+            subst P nothing (text_on bytes passed left events it named one few all within e)),
+        λ kind low. inr (
           (let P : List (List (List ℕ)) → Type 0 = λ lines. CanBegin name_of height_of lines in subst P (sym whole) (can_begin name_of height_of events it kind low one.within one.is_open)),
-          last ∙ last_is bytes passed left one.ends (one.count ∙ sym (ap length whole) ∙ length_word_lines bytes) (omega (arith, one.count))))
+          last ∙ last_is bytes passed left one.ends (one.count ∙ sym (ap length whole) ∙ length_word_lines bytes) (omega (arith, one.count)),
+        ),
+      )
     where
       last_is : (bytes : List ℕ) (passed : ℕ) (left : List ℕ) → is_ended bytes ≡ is_ended left → passed ≡ length (ended_lines bytes) → 1 ≤ passed
           → passed + cond (is_ended left) 0 1 ≡ last_line bytes
@@ -213,8 +216,10 @@ module _ {K : Type 0} (name_of : K → List ℕ) (height_of : K → ℕ) where
       go : (others : List (List (List ℕ))) → word_lines rest ≡ others → IsNamed name_of height_of bytes (passed + 2)
       go [] e =
           let whole : word_lines bytes ≡ front = lines ∙ ap (λ xs. front ++ xs) e ∙ append-nil front in
-          inr ((let P : List (List (List ℕ)) → Type 0 = λ xs. CanBegin name_of height_of xs in subst P (sym whole) begins),
-              last_behind bytes passed (ends ∙ not_ended rest some (no_lines rest e)) (sym (length_word_lines bytes) ∙ ap length whole ∙ size))
+          inr (
+            (let P : List (List (List ℕ)) → Type 0 = λ xs. CanBegin name_of height_of xs in subst P (sym whole) begins),
+            last_behind bytes passed (ends ∙ not_ended rest some (no_lines rest e)) (sym (length_word_lines bytes) ∙ ap length whole ∙ size),
+          )
       go (wrong ∷ behind) e = inl record {
         front = front;
         wrong = wrong;
@@ -231,13 +236,14 @@ module _ {K : Type 0} (name_of : K → List ℕ) (height_of : K → ℕ) where
       → ((rest : List (List (List ℕ))) (all : List (Event K)) → GoesOn name_of height_of events it (pieces_of line ∷ rest) all → (rest ≡ []) × (all ≡ events))
       → IsAnswer name_of height_of bytes (Ok record { events = events; spare = spare })
   answer_whole bytes passed left events it line spare named few one cut whole none last goes =
-      let front : front_of events it ++ pieces_of line ∷ [] ≡ journal_lines name_of height_of events = whole_lines events it line none last in
-      (one.within,
-      sym (ap (flat_map ended_line) front) ∙ sym (append-nil (flat_map ended_line (front_of events it ++ pieces_of line ∷ []))) ∙ line_text (front_of events it) line [] left bytes whole one.text,
-      λ all within e.
-          let on = text_on bytes passed left events it named one few all within e in
-          let P : List (List (List ℕ)) → Type 0 = λ lines. GoesOn name_of height_of events it lines (map told all) in
-          sym (goes [] (map told all) (subst P (ap (map pieces_of) cut) on)).1)
+      let front : front_of events it ++ pieces_of line ∷ [] ≡ journal_lines name_of height_of events = whole_lines events it line none last in (
+        one.within,
+        sym (ap (flat_map ended_line) front) ∙ sym (append-nil (flat_map ended_line (front_of events it ++ pieces_of line ∷ []))) ∙ line_text (front_of events it) line [] left bytes whole one.text,
+        λ all within e.
+            let on = text_on bytes passed left events it named one few all within e in
+            let P : List (List (List ℕ)) → Type 0 = λ lines. GoesOn name_of height_of events it lines (map told all) in
+            sym (goes [] (map told all) (subst P (ap (map pieces_of) cut) on)).1,
+      )
 
   -- or something follows it, and no journal's text has that
   pub answer_more : (bytes : List ℕ) (passed : ℕ) (left : List ℕ) (events : List (Event K)) (it : Option (Open K)) (line rest : List ℕ) → Named name_of → length bytes < 2 ^ 63
@@ -247,21 +253,22 @@ module _ {K : Type 0} (name_of : K → List ℕ) (height_of : K → ℕ) where
   answer_more bytes passed left events it line rest named few one cut whole none last goes some =
       let front : front_of events it ++ pieces_of line ∷ [] ≡ journal_lines name_of height_of events = whole_lines events it line none last in
       let lines : word_lines bytes ≡ (front_of events it ++ pieces_of line ∷ []) ++ word_lines rest =
-          one.lines ∙ ap (λ xs. front_of events it ++ xs) (cut_words left line rest cut) ∙ one_more (front_of events it) (pieces_of line) (word_lines rest) in
+      one.lines ∙ ap (λ xs. front_of events it ++ xs) (cut_words left line rest cut) ∙ one_more (front_of events it) (pieces_of line) (word_lines rest) in
       let ends : is_ended bytes ≡ is_ended rest = one.ends ∙ ap is_ended whole ∙ ends_behind line rest in
       let begins : CanBegin name_of height_of (front_of events it ++ pieces_of line ∷ []) = record { events = events; within = one.within; behind = []; lines = append-nil (front_of events it ++ pieces_of line ∷ []) ∙ front } in
-      let size : length (front_of events it ++ pieces_of line ∷ []) ≡ passed + 1 = omega (arith, one.count, length-append (front_of events it) (pieces_of line ∷ [])) in
-      (λ all within e.
-          let on = text_on bytes passed left events it named one few all within e in
-          let P : List (List (List ℕ)) → Type 0 = λ lines. GoesOn name_of height_of events it lines (map told all) in
-          let told = goes (word_lines rest) (map told all) (subst P (cut_words left line rest cut) on) in
-          no_rest rest (ends_journal name_of height_of all) (ap is_ended e ∙ ends) told.0 some,
-      λ kind low. named_behind bytes passed rest (front_of events it ++ pieces_of line ∷ []) lines ends size begins some
-          (λ wrong behind other.
-              let e : front_of events it ++ pieces_of line ∷ (wrong ∷ other.behind) ≡ journal_lines name_of height_of other.events =
-                  one_more (front_of events it) (pieces_of line) (wrong ∷ other.behind) ∙ one_more (front_of events it ++ pieces_of line ∷ []) wrong other.behind ∙ other.lines in
-              let on = one.goes other.events other.within (pieces_of line ∷ wrong ∷ other.behind) e in
-              cc (goes (wrong ∷ other.behind) (map told other.events) on).0))
+      let size : length (front_of events it ++ pieces_of line ∷ []) ≡ passed + 1 = omega (arith, one.count, length-append (front_of events it) (pieces_of line ∷ [])) in (
+        λ all within e.
+            let on = text_on bytes passed left events it named one few all within e in
+            let P : List (List (List ℕ)) → Type 0 = λ lines. GoesOn name_of height_of events it lines (map told all) in
+            let told = goes (word_lines rest) (map told all) (subst P (cut_words left line rest cut) on) in
+            no_rest rest (ends_journal name_of height_of all) (ap is_ended e ∙ ends) told.0 some,
+        λ kind low. named_behind bytes passed rest (front_of events it ++ pieces_of line ∷ []) lines ends size begins some
+            (λ wrong behind other.
+            let e : front_of events it ++ pieces_of line ∷ (wrong ∷ other.behind) ≡ journal_lines name_of height_of other.events =
+            one_more (front_of events it) (pieces_of line) (wrong ∷ other.behind) ∙ one_more (front_of events it ++ pieces_of line ∷ []) wrong other.behind ∙ other.lines in
+            let on = one.goes other.events other.within (pieces_of line ∷ wrong ∷ other.behind) e in
+            cc (goes (wrong ∷ other.behind) (map told other.events) on).0),
+      )
 
   -- the same, as a test of emptiness tells it
   pub answer_last : (bytes : List ℕ) (passed : ℕ) (left : List ℕ) (events : List (Event K)) (it : Option (Open K)) (line rest : List ℕ) (now : List (Event K)) (spare : ℕ) → Named name_of
@@ -273,7 +280,7 @@ module _ {K : Type 0} (name_of : K → List ℕ) (height_of : K → ℕ) where
       let none = nil_of rest empty in
       let P : List (Event K) → Type 0 = λ es. IsAnswer name_of height_of bytes (Ok record { events = es; spare = spare }) in
       subst P (sym step.1)
-          (answer_whole bytes passed left events it line spare named few one (cut ∙ ap (λ r. line ∷ ended_lines r) none) (whole ∙ ap (λ r. line ++ 10 ∷ r) none) step.0 step.2 step.3)
+      (answer_whole bytes passed left events it line spare named few one (cut ∙ ap (λ r. line ∷ ended_lines r) none) (whole ∙ ap (λ r. line ++ 10 ∷ r) none) step.0 step.2 step.3)
 
   -- ---- The first line
 
@@ -281,13 +288,15 @@ module _ {K : Type 0} (name_of : K → List ℕ) (height_of : K → ℕ) where
   empty_begins = record { events = []; within = tt; behind = journal_lines name_of height_of []; lines = refl }
 
   pub answer_none : (bytes : List ℕ) → Named name_of → length bytes < 2 ^ 63 → ended_lines bytes ≡ [] → IsAnswer name_of height_of bytes (Err (NotJournal 1))
-  answer_none bytes named few none =
-      (λ all within e.
-          let lines = sym (ap word_lines e) ∙ text_lines name_of height_of named all within (omega (arith, ap length e)) in
-          absurd (cc (sym lines ∙ ap (map pieces_of) none)),
-      λ kind low. inr (
-          (let P : List (List (List ℕ)) → Type 0 = λ lines. CanBegin name_of height_of lines in subst P (sym (ap (map pieces_of) none)) empty_begins),
-          one_line bytes none))
+  answer_none bytes named few none = (
+    λ all within e.
+        let lines = sym (ap word_lines e) ∙ text_lines name_of height_of named all within (omega (arith, ap length e)) in
+        absurd (cc (sym lines ∙ ap (map pieces_of) none)),
+    λ kind low. inr (
+      (let P : List (List (List ℕ)) → Type 0 = λ lines. CanBegin name_of height_of lines in subst P (sym (ap (map pieces_of) none)) empty_begins),
+      one_line bytes none,
+    ),
+  )
     where
       one_line : (text : List ℕ) → ended_lines text ≡ [] → 1 ≡ last_line text
       one_line text none =
@@ -296,20 +305,21 @@ module _ {K : Type 0} (name_of : K → List ℕ) (height_of : K → ℕ) where
 
   pub answer_first : (bytes line behind : List ℕ) → Named name_of → length bytes < 2 ^ 63 → ended_lines bytes ≡ line ∷ ended_lines behind → bytes_eq line (codes "cht journal 1") ≡ false
       → IsAnswer name_of height_of bytes (Err (NotJournal 1))
-  answer_first bytes line behind named few cut other =
-      (λ all within e.
-          let lines = text_lines name_of height_of named all within (omega (arith, ap length e)) in
-          let first : pieces_of line ≡ first_words = cc (sym (ap (map pieces_of) cut) ∙ sym (ap word_lines e) ∙ lines) in
-          not_first line other first,
-      λ kind low. inl record {
-        front = [];
-        wrong = pieces_of line;
-        behind = word_lines behind;
-        split = ap (map pieces_of) cut;
-        place = refl;
-        before = empty_begins;
-        none = λ begun. not_first line other (cc begun.lines);
-      })
+  answer_first bytes line behind named few cut other = (
+    λ all within e.
+        let lines = text_lines name_of height_of named all within (omega (arith, ap length e)) in
+        let first : pieces_of line ≡ first_words = cc (sym (ap (map pieces_of) cut) ∙ sym (ap word_lines e) ∙ lines) in
+        not_first line other first,
+    λ kind low. inl record {
+      front = [];
+      wrong = pieces_of line;
+      behind = word_lines behind;
+      split = ap (map pieces_of) cut;
+      place = refl;
+      before = empty_begins;
+      none = λ begun. not_first line other (cc begun.lines);
+    },
+  )
     where
       not_first : (line : List ℕ) → bytes_eq line (codes "cht journal 1") ≡ false → pieces_of line ≡ first_words → ⊥
       not_first line other first =

@@ -1,5 +1,5 @@
 -- The words of places: where a point stands in them.
-use Rattle.std.proofs.Common.{◌≡◌, ℕ, ◌+◌, ◌-◌, ◌^◌, ◌<◌, Bool, true, false, suc, List, [], ◌∷◌, ◌++◌, length, get_or, take, drop, Some, None, refl, sym, ap, ◌∙◌, subst, arith, add-one, drop-cons, length-append}
+use Rattle.std.proofs.Common.{◌≡◌, ℕ, ◌+◌, ◌-◌, ◌<◌, true, false, suc, List, [], ◌∷◌, ◌++◌, length, get_or, take, drop, Some, refl, sym, ap, ◌∙◌, arith, add-one, drop-cons, length-append}
 use Rattle.std.specs.List.{list_all, position, position_or_len}
 use Rattle.std.specs.Fmt.{decimal}
 use Rattle.std.proofs.Math.Seq.{take-append_seam, drop-append-add}
@@ -11,7 +11,7 @@ use Rattle.cht_ids.specs.declared.refs.Ref.{Ref}
 use Rattle.cht_ids.specs.declared.refs.Ref.TheVariants.{Null, Id as Held}
 use Rattle.cht_ids.specs.Refs.{IsRef, ref_text}
 use Rattle.cht_ids.proofs.RefTexts.{ref_text-injective}
-use Rattle.cht_ids.proofs.Spells.{Spells, Spells-decimal}
+use Rattle.cht_ids.proofs.Spells.{Spells-decimal}
 use Rattle.journal_text.specs.Text.{number}
 use Rattle.journal_text.specs.Bounds.{IsMention}
 use Rattle.journal_text.specs.Fields.{is_point, IsBelow}

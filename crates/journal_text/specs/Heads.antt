@@ -1,5 +1,5 @@
 -- The first line of an event, and the last line of a text, as a reader sees them before the lines behind.
-use Rattle.std.specs.Prelude.{ℕ, Bool, ◌≡◌, ◌<◌, ◌≤◌, ◌^◌, if◌then◌else◌, List, [], ◌∷◌, map, codes, Option, None, Some}
+use Rattle.std.specs.Prelude.{ℕ, Bool, ◌<◌, ◌^◌, if◌then◌else◌, List, [], ◌∷◌, map, codes, Option, None, Some}
 use Rattle.std.specs.Str.{bytes_eq}
 use Rattle.cht_ids.specs.Lines.{pieces_of}
 use Rattle.cht_ids.specs.Refs.{id_text, ref_text}

@@ -1,5 +1,5 @@
-use cht_ids::{Id, Ref, TaskNo};
 use crate::mentions::Mentions;
+use cht_ids::{Id, Ref, TaskNo};
 use task_types::Place;
 
 /// What a line begins with.

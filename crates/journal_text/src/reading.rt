@@ -3,7 +3,6 @@ ghost use Rattle.cht_ids.specs.Lines.{pieces_of};
 ghost use Rattle.journal_text.specs.Text.{ended_line, first_words};
 ghost use Rattle.journal_text.specs.Answers.{IsAnswer};
 
-
 use crate::open::{Halt, Open};
 use crate::refused::JournalRefused;
 use crate::steps::take_line;

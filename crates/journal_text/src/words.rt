@@ -11,7 +11,9 @@ ghost use Rattle.journal_text.specs.Text.{number, place_text};
 ghost use Rattle.journal_text.specs.Bounds.{IsActor, IsNumber, IsName, IsMention, IsPlace};
 ghost use Rattle.journal_text.specs.Heads.{words_left};
 
-use crate::fields::{read_actor, read_count, read_kind, read_mention, read_name, read_number, read_place};
+use crate::fields::{
+    read_actor, read_count, read_kind, read_mention, read_name, read_number, read_place,
+};
 use cht_ids::{Id, Ref, TaskNo, cut_word};
 use task_types::{Kinds, Place};
 

@@ -1,6 +1,4 @@
-use Rattle.std.proofs.Common.{rules, ◌≡◌, ℕ, ◌+◌, ◌<◌, ◌++◌, ◌∷◌, ap, sym, ◌∙◌, Some, None, take, drop, arith}
-use Rattle.std.proofs.lemmas.Grind.{common_steps}
-use Rattle.journal_text.specs.Text.{number}
+use Rattle.std.proofs.Common.{rules, ◌+◌, ◌∷◌, ap, sym, ◌∙◌}
 use Rattle.journal_text.proofs.Points.{child_point, child_place, child_front, child_back, child_whole, slice_rest}
 use Rattle.journal_text.proofs.fields.read_child.Goals as goal
 
@@ -21,7 +19,7 @@ returns-in_err-child-clause-every c = λ i j low high e.
 pub returns-clause-read : goal.returns-clause-read
 returns-clause-read c =
     let whole = child_whole c.args.word.now c.in_ok-point.point c.in_ok-input.input c.in_ok-child.child c.in_ok-point.ensures c.in_ok-input.ensures.read
-        (c.in_ok-child.ensures.read ∙ slice_rest c.args.word.now (c.in_ok-point.point + 1)) in
+    (c.in_ok-child.ensures.read ∙ slice_rest c.args.word.now (c.in_ok-point.point + 1)) in
     (ap (λ word. 99 ∷ word) whole, (search rules, search rules))
 
 pub returns-clause-every : goal.returns-clause-every

@@ -1,5 +1,4 @@
-use Rattle.std.proofs.Common.{◌≡◌, true, ap, subst, sym, ◌∙◌}
-use Rattle.cht_ids.specs.declared.refs.Ref.{Ref}
+use Rattle.std.proofs.Common.{◌≡◌, ap, subst, sym}
 use Rattle.std.proofs.Common.{Some}
 use Rattle.journal_text.specs.Fields.{IsBelow}
 use Rattle.journal_text.proofs.Points.{same_mention, mention_below}

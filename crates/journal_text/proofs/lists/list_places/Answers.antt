@@ -1,4 +1,4 @@
-use Rattle.std.proofs.Common.{◌≡◌, ◌<◌, ◌≤◌, List, length, sym, ap, subst, Some, arith}
+use Rattle.std.proofs.Common.{◌≡◌, ◌<◌, List, length, sym, ap, subst, Some, arith}
 use Rattle.journal_text.specs.Text.{place_text}
 use Rattle.task_types.specs.declared.outcome.Place.{Place}
 use Rattle.journal_text.specs.Bounds.{IsPlace}
@@ -22,7 +22,7 @@ loop-left-preserved c =
     let P : List Place → Type 0 = λ got. IsListed place_text IsPlace (words_left c.args.words.more c.args.words.rest.now) got (words_left c.in_ok-place.behind.more c.in_ok-place.behind.rest.now) in
     let room : length c.loop-left.list < 4 = omega (arith, c.loop-left.invariant.few) in
     subst P (sym c.push.ensures)
-        (listed_more place_text IsPlace _ c.loop-left.list (words_left c.loop-left.left.more c.loop-left.left.rest.now) c.in_ok-place.place _ c.loop-left.invariant c.in_ok-place.ensures.read.0 c.in_ok-place.ensures.read.1 c.in_ok-place.ensures.every room)
+    (listed_more place_text IsPlace _ c.loop-left.list (words_left c.loop-left.left.more c.loop-left.left.rest.now) c.in_ok-place.place _ c.loop-left.invariant c.in_ok-place.ensures.read.0 c.in_ok-place.ensures.read.1 c.in_ok-place.ensures.every room)
 
 pub returns-clause-every : goal.returns-clause-every
 returns-clause-every c = λ xs few within shown.

@@ -1,4 +1,4 @@
-use Rattle.std.proofs.Common.{◌≡◌, ◌<◌, ◌≤◌, List, length, sym, ap, subst, Some, arith}
+use Rattle.std.proofs.Common.{◌≡◌, ◌<◌, List, length, sym, ap, subst, Some, arith}
 use Rattle.cht_ids.specs.Refs.{ref_text}
 use Rattle.cht_ids.specs.declared.refs.Ref.{Ref}
 use Rattle.journal_text.specs.Bounds.{IsMention}
@@ -22,7 +22,7 @@ loop-left-preserved c =
     let P : List Ref → Type 0 = λ got. IsListed ref_text IsMention (words_left c.args.words.more c.args.words.rest.now) got (words_left c.in_ok-r.behind.more c.in_ok-r.behind.rest.now) in
     let room : length c.loop-left.mentions < 4 = omega (arith, c.loop-left.invariant.few) in
     subst P (sym c.push.ensures)
-        (listed_more ref_text IsMention _ c.loop-left.mentions (words_left c.loop-left.left.more c.loop-left.left.rest.now) c.in_ok-r.r _ c.loop-left.invariant c.in_ok-r.ensures.read.0 c.in_ok-r.ensures.read.1 c.in_ok-r.ensures.every room)
+    (listed_more ref_text IsMention _ c.loop-left.mentions (words_left c.loop-left.left.more c.loop-left.left.rest.now) c.in_ok-r.r _ c.loop-left.invariant c.in_ok-r.ensures.read.0 c.in_ok-r.ensures.read.1 c.in_ok-r.ensures.every room)
 
 pub returns-clause-every : goal.returns-clause-every
 returns-clause-every c = λ xs within shown.

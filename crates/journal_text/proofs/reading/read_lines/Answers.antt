@@ -1,4 +1,4 @@
-use Rattle.std.proofs.Common.{◌≡◌, ◌<◌, ◌+◌, None, List, [], ◌∷◌, length, sym, ap, ◌∙◌, subst, arith}
+use Rattle.std.proofs.Common.{◌+◌, None, List, sym, subst}
 use Rattle.cht_history.specs.declared.event.Event.{Event}
 use Rattle.journal_text.proofs.Passed.{IsRead, read_start, read_more, answer_wrong, answer_short, answer_last, answer_more, some_of, short_empty, short_more}
 use Rattle.journal_text.proofs.reading.read_lines.Goals as goal
@@ -15,7 +15,7 @@ returns-in-Err-Wrong g c =
 pub returns-then-is_empty : goal.returns-then-is_empty
 returns-then-is_empty g c =
     answer_last g.K.Kinds.name_of g.K.Kinds.height_of c.args.bytes.now c.loop-line.passed c.loop-line.left.now c.loop-line.journal.events c.loop-line.part c.in-Some.line.now c.in-Some.rest.now c.take_line.new.journal.events 0 (g.met.K.Kinds g.world.𝓛 g.world.𝓜 g.world.𝓡 ((λ s x. x), (λ x. x), (λ x. x), λ x. x)).named c.requires.room c.loop-line.invariant c.in-Some.ensures.lines c.in-Some.ensures.whole
-        (rw c.in-Err-Ended.field-0-is at c.in-Err-Ended.ensures) c.if-is_empty.ensures
+    (rw c.in-Err-Ended.field-0-is at c.in-Err-Ended.ensures) c.if-is_empty.ensures
 
 pub returns-in-Err-Ended : goal.returns-in-Err-Ended
 returns-in-Err-Ended g c =

@@ -1,4 +1,4 @@
-use Rattle.std.proofs.Common.{◌<◌, ◌^◌, length, sym, arith}
+use Rattle.std.proofs.Common.{sym}
 use Rattle.journal_text.proofs.Passed.{answer_none, answer_first}
 use Rattle.journal_text.proofs.reading.read_text.Goals as goal
 

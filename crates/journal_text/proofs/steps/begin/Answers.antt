@@ -1,4 +1,4 @@
-use Rattle.std.proofs.Common.{◌≡◌, ◌<◌, ◌^◌, length, Some, sym, ◌∙◌, arith}
+use Rattle.std.proofs.Common.{sym, ◌∙◌, arith}
 use Rattle.cht_ids.specs.Lines.{pieces_of}
 use Rattle.journal_text.proofs.GoesOn.{none_next}
 use Rattle.journal_text.proofs.Advance.{step_whole, step_part, part_open, step_ended, step_miscounted}

@@ -1,4 +1,4 @@
-use Rattle.std.proofs.Common.{◌≡◌, ◌<◌, Some, arith}
+use Rattle.std.proofs.Common.{arith}
 use Rattle.cht_ids.specs.Lines.{pieces_of}
 use Rattle.journal_text.proofs.Advance.{chunk_none, task_none, step_chunk, step_task}
 use Rattle.journal_text.proofs.steps.go_on.Goals as goal

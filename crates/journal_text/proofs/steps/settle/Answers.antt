@@ -1,4 +1,4 @@
-use Rattle.std.proofs.Common.{◌≡◌, arith}
+use Rattle.std.proofs.Common.{arith}
 use Rattle.journal_text.proofs.Advance.{settled}
 use Rattle.journal_text.proofs.steps.settle.Goals as goal
 

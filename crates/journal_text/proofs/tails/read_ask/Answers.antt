@@ -1,7 +1,7 @@
-use Rattle.std.proofs.Common.{ℕ, List, [], ◌∷◌, ◌≡◌}
+use Rattle.std.proofs.Common.{◌∷◌}
 use Rattle.std.specs.Prelude.{map}
-use Rattle.cht_ids.specs.Refs.{id_text, ref_text}
-use Rattle.journal_text.specs.Text.{number, place_text}
+use Rattle.cht_ids.specs.Refs.{ref_text}
+use Rattle.journal_text.specs.Text.{number}
 use Rattle.journal_text.proofs.tails.read_ask.Goals as goal
 
 pub returns-in_err-task-clause-every : goal.returns-in_err-task-clause-every

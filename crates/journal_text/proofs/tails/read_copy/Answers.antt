@@ -1,7 +1,5 @@
-use Rattle.std.proofs.Common.{ℕ, List, [], ◌∷◌, ◌≡◌}
-use Rattle.std.specs.Prelude.{map}
-use Rattle.cht_ids.specs.Refs.{id_text, ref_text}
-use Rattle.journal_text.specs.Text.{number, place_text}
+use Rattle.std.proofs.Common.{[], ◌∷◌}
+use Rattle.cht_ids.specs.Refs.{id_text}
 use Rattle.journal_text.proofs.tails.read_copy.Goals as goal
 
 pub returns-in_err-to-clause-every : goal.returns-in_err-to-clause-every

@@ -1,6 +1,4 @@
-use Rattle.std.proofs.Common.{ℕ, List, [], ◌∷◌, ◌≡◌}
-use Rattle.std.specs.Prelude.{map}
-use Rattle.cht_ids.specs.Refs.{id_text, ref_text}
+use Rattle.std.proofs.Common.{[], ◌∷◌}
 use Rattle.journal_text.specs.Text.{number, place_text}
 use Rattle.journal_text.proofs.Finishes.{same_finish}
 use Rattle.journal_text.proofs.tails.read_finish.Goals as goal

@@ -1,7 +1,6 @@
-use Rattle.std.proofs.Common.{ℕ, List, [], ◌∷◌, ◌≡◌}
+use Rattle.std.proofs.Common.{◌∷◌}
 use Rattle.std.specs.Prelude.{map}
 use Rattle.cht_ids.specs.Refs.{id_text, ref_text}
-use Rattle.journal_text.specs.Text.{number, place_text}
 use Rattle.journal_text.proofs.tails.read_register.Goals as goal
 
 pub returns-clause-every : goal.returns-clause-every
