@@ -83,8 +83,8 @@ module _ {X : Type 0} (f : X → List ℕ) where
       subst P (ap (flat_map f) whole) one
 
 -- an item that was got
-pub got_or : {X : Type 0} (xs : List X) (i : ℕ) (x : X) → slice_get xs i ≡ Some x → x ≡ get_or xs i x
-got_or xs i x e = sym (get_or_from_slice_get xs i x x e)
+pub got_or : {X : Type 0} (xs : List X) (i : ℕ) (x : X) → Some x ≡ slice_get xs i → x ≡ get_or xs i x
+got_or xs i x e = sym (get_or_from_slice_get xs i x x (sym e))
 
 -- within a list there is an item
 pub none_within : {X : Type 0} (xs : List X) (i : ℕ) → slice_get xs i ≡ None → i < length xs → ⊥

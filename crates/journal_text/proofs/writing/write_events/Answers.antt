@@ -10,10 +10,10 @@ returns-in-None-clause-whole g c = absurd (none_within c.args.journal.now.events
 pub loop-i-preserved : goal.loop-i-preserved
 loop-i-preserved g c = record {
   later = omega (arith, c.loop-i.invariant.later, c.in_ok-write_event-in-Some.ensures.later);
-  sent = loop_more (event_text g.K.Kinds.name_of g.K.Kinds.height_of) _ _ _ _ _ _ c.args.journal.now.events c.loop-i.i c.in-Some.event.now c.in-Some.event.now (omega arith) (got_or c.args.journal.now.events c.loop-i.i c.in-Some.event.now (sym c.in-Some.ensures)) c.loop-i.invariant.sent c.in_ok-write_event-in-Some.ensures.whole;
+  sent = loop_more (event_text g.K.Kinds.name_of g.K.Kinds.height_of) _ _ _ _ _ _ c.args.journal.now.events c.loop-i.i c.in-Some.event.now c.in-Some.event.now (omega arith) (got_or c.args.journal.now.events c.loop-i.i c.in-Some.event.now c.in-Some.ensures) c.loop-i.invariant.sent c.in_ok-write_event-in-Some.ensures.whole;
 }
 
 pub returns-in_err-write_event-in-Some-clause-front : goal.returns-in_err-write_event-in-Some-clause-front
 returns-in_err-write_event-in-Some-clause-front g c =
     let p = err_from_is_err_and c.from_residual.result c.from_residual.ensures.1 in
-    rw p.1 (loop_failed (event_text g.K.Kinds.name_of g.K.Kinds.height_of) _ _ _ _ _ c.args.journal.now.events c.loop-i.i c.in-Some.event.now c.in-Some.event.now (omega arith) (got_or c.args.journal.now.events c.loop-i.i c.in-Some.event.now (sym c.in-Some.ensures)) c.loop-i.invariant.sent c.in_err-write_event-in-Some.ensures.front)
+    rw p.1 (loop_failed (event_text g.K.Kinds.name_of g.K.Kinds.height_of) _ _ _ _ _ c.args.journal.now.events c.loop-i.i c.in-Some.event.now c.in-Some.event.now (omega arith) (got_or c.args.journal.now.events c.loop-i.i c.in-Some.event.now c.in-Some.ensures) c.loop-i.invariant.sent c.in_err-write_event-in-Some.ensures.front)
