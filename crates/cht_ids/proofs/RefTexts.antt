@@ -1,6 +1,5 @@
 -- The text of an identifier, and how it comes apart at its colon.
-use Rattle.std.specs.Prelude.{IfSome}
-use Rattle.std.proofs.Common.{Option, ◌≤◌, ◌≡◌, ℕ, ◌+◌, ◌^◌, ◌<◌, true, false, List, [], ◌∷◌, ◌++◌, length, get_or, take, drop, Some, None, refl, sym, ap, ◌∙◌, subst, arith, pos, length-append, add-one, drop-cons}
+use Rattle.std.proofs.Common.{◌≡◌, ℕ, ◌+◌, ◌^◌, ◌<◌, true, false, List, [], ◌∷◌, ◌++◌, length, get_or, take, drop, Some, None, refl, sym, ap, ◌∙◌, subst, arith, pos, length-append, add-one, drop-cons}
 use Rattle.std.specs.List.{list_all, position, position_or_len}
 use Rattle.std.specs.Fmt.{decimal}
 use Rattle.std.proofs.Math.Seq.{take-append_seam, drop-append-add}
@@ -33,7 +32,7 @@ id_colon id fits =
     position_at (id_text id) (length (decimal id.owner)) (colon_after (decimal id.owner) (decimal id.number) owner.digits) (omega (arith, length-append (decimal id.owner) (58 ∷ decimal id.number)))
 
 -- plain digits of a number that is low enough
-pub plain_below-Some : (bound n : ℕ) (ds : List ℕ) → plain_below bound ds ≡ Some n → Spells n ds × (n < bound)
+plain_below-Some : (bound n : ℕ) (ds : List ℕ) → plain_below bound ds ≡ Some n → Spells n ds × (n < bound)
 plain_below-Some bound n ds e =
     let plain : starts_plainly ds ≡ true = grind (arith, nat_tests) in
     let digits : are_digits ds ≡ true = grind (arith, nat_tests) in
@@ -42,24 +41,9 @@ plain_below-Some bound n ds e =
     let P : ℕ → Type 0 = λ m. Spells m ds in
     (subst P value (Spells-plain ds digits plain), omega arith)
 
-pub plain_below-Spells : (bound n : ℕ) (ds : List ℕ) → n < bound → Spells n ds → plain_below bound ds ≡ Some n
+plain_below-Spells : (bound n : ℕ) (ds : List ℕ) → n < bound → Spells n ds → plain_below bound ds ≡ Some n
 plain_below-Spells bound n [] low s = absurd (omega (arith, s.some))
 plain_below-Spells bound n (d ∷ ds) low s = grind (arith, nat_tests, s.digits, s.value, s.plain, s.zero)
-
--- the text of a number that is low enough, and no other word
-pub plain_below-text : (bound n : ℕ) (word : List ℕ) → bound ≤ 2 ^ 128 → plain_below bound word ≡ Some n → number_text (pos n) ≡ word
-plain_below-text bound n word small e =
-    let s = plain_below-Some bound n word e in
-    Spells-same n (decimal n) word (Spells-decimal n (omega (arith, s.1))) s.0
-
-pub text-plain_below : (bound n : ℕ) (word : List ℕ) → bound ≤ 2 ^ 128 → n < bound → number_text (pos n) ≡ word → plain_below bound word ≡ Some n
-text-plain_below bound n word small low e =
-    let P : List ℕ → Type 0 = λ text. plain_below bound text ≡ Some n in
-    subst P e (plain_below-Spells bound n (decimal n) low (Spells-decimal n (omega arith)))
-
-pub read_text : (o : Option ℕ) (word : List ℕ) → o ≡ plain_below (2 ^ 128) word → IfSome o (λ n. number_text (pos n) ≡ word)
-read_text None word e = tt
-read_text (Some n) word e = plain_below-text (2 ^ 128) n word (omega arith) (sym e)
 
 -- where the text of an identifier comes apart
 id_place : (id : Id) (word : List ℕ) (k : ℕ) → IsId id → id_text id ≡ word → position is_colon word ≡ Some k → k ≡ length (decimal id.owner)

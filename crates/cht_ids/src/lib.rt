@@ -19,7 +19,7 @@ pub use limits::{LIMIT, fits_product, fits_sum};
 pub use lines::{cut_line, cut_word};
 pub use list::List;
 pub use memory::Memory;
-pub use number::{read_decimal, read_number, read_unsigned, write_number};
+pub use number::{read_number, read_unsigned, write_number};
 pub use refs::{Id, Ref, TaskNo, read_ref, write_ref};
 pub use short::Short;
 pub use unpack::Unpack;

@@ -1,4 +1,4 @@
-ghost use Rattle.std.specs.Prelude.{ℕ, IfSome, ◌≡◌, ◌+◌, ◌*◌, ◌^◌, ◌<◌, ◌≤◌, pos, neg_ℤ, Some, true, if◌then◌else◌, length, SomeIff};
+ghost use Rattle.std.specs.Prelude.{◌≡◌, ◌+◌, ◌*◌, ◌^◌, ◌<◌, ◌≤◌, pos, neg_ℤ, Some, true, if◌then◌else◌, length, SomeIff};
 ghost use Rattle.cht_ids.specs.Numeral.{number_of, number_64, number_text, unsigned_below, plain_below, within_64, is_canonical};
 
 use crate::Short;
@@ -58,15 +58,6 @@ pub(crate) fn read_plain(digits: &[u8]) -> Option<u128>
         [b'0', _, ..] => None,
         _ => read_unsigned(digits),
     }
-}
-
-/// The number below 2^128 whose decimal text a word is: no sign, and no zero before other digits. `None` exactly where it is no such
-/// text.
-pub fn read_decimal(word: &[u8]) -> Option<u128>
-    ensures read { IfSome result (λ n. number_text (pos n) ≡ word.now) }
-    ensures every { (n : ℕ) → n < 2 ^ 128 → number_text (pos n) ≡ word.now → result ≡ Some n }
-{
-    read_plain(word)
 }
 
 /// The number below 2^128 that digits spell, without a sign: one ASCII digit or more, with zeros before others allowed. `None`

@@ -9,3 +9,4 @@ pub mod Advance
 pub mod LineTexts
 pub mod Completed
 pub mod Passed
+pub mod Decimals

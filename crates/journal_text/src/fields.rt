@@ -9,7 +9,8 @@ ghost use Rattle.journal_text.specs.Fields.{is_point, IsBelow};
 ghost use Rattle.journal_text.specs.Text.{number, place_text};
 ghost use Rattle.journal_text.specs.Bounds.{IsActor, IsNumber, IsName, IsMention, IsPlace};
 
-use cht_ids::{Id, Ref, TaskNo, read_decimal, read_ref};
+use crate::decimal::read_decimal;
+use cht_ids::{Id, Ref, TaskNo, read_ref};
 use task_types::{Kinds, Place};
 
 // A caller or a worker.

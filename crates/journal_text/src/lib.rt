@@ -2,6 +2,7 @@
 #![tactic(auto)]
 
 mod buffer;
+mod decimal;
 mod fields;
 mod head;
 mod line;
