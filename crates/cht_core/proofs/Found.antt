@@ -15,7 +15,7 @@ use Rattle.name_machine.specs.States.{tree_named, tree_of_holding, Holds}
 use Rattle.name_machine.specs.Control.{Control}
 use Rattle.name_machine.specs.Standing.{machine_of, IsOrderly}
 use Rattle.name_machine.proofs.Grow as grow
-use Rattle.cht_core.specs.Paths.{root_content, tree_below, content_at}
+use Rattle.name_machine.specs.Paths.{root_content, tree_below, content_at}
 use Rattle.cht_core.proofs.Mine.{holds_mine}
 
 -- nothing is below nothing

@@ -6,7 +6,7 @@ ghost use Rattle.name_states.specs.Trees.{tree_of};
 ghost use Rattle.name_machine.specs.States.{Holds, tree_named};
 ghost use Rattle.name_machine.specs.Standing.{HoldsNothing};
 ghost use Rattle.cht_core.specs.Events.{state};
-ghost use Rattle.cht_core.specs.Paths.{content_at};
+ghost use Rattle.name_machine.specs.Paths.{content_at};
 
 use crate::cores::Core;
 use cht_ids::{Id, Memory, Ref};

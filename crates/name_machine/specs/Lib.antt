@@ -7,6 +7,7 @@ pub mod Laws
 pub mod Machine
 pub mod NewTasks
 pub mod Parts
+pub mod Paths
 pub mod Replay
 pub mod Standing
 pub mod States

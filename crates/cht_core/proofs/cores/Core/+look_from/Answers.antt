@@ -1,6 +1,6 @@
 use Rattle.std.proofs.Common.{◌≡◌, None, sym, subst}
 use Rattle.name_states.specs.Trees.{tree_of}
-use Rattle.cht_core.specs.Paths.{content_at}
+use Rattle.name_machine.specs.Paths.{content_at}
 use Rattle.cht_core.proofs.Found.{nothing_there}
 use Rattle.cht_core.proofs.cores.Core.+look_from.Goals as goal
 

@@ -4,7 +4,7 @@ use Rattle.task_types.specs.Tree.{Nothing, child}
 use Rattle.name_states.specs.States.{IsLive}
 use Rattle.name_states.specs.Trees.{tree_of}
 use Rattle.core_state.specs.Contents.{Contents}
-use Rattle.cht_core.specs.Paths.{root_content}
+use Rattle.name_machine.specs.Paths.{root_content}
 use Rattle.cht_core.proofs.Found.{child_found, child_missing}
 use Rattle.cht_core.proofs.cores.Core.child.Goals as goal
 

@@ -5,7 +5,7 @@ use Rattle.name_states.specs.Trees.{tree_of}
 use Rattle.name_machine.specs.States.{Holds, tree_named}
 use Rattle.core_state.specs.Contents.{Contents}
 use Rattle.cht_core.specs.Events.{state}
-use Rattle.cht_core.specs.Paths.{content_at}
+use Rattle.name_machine.specs.Paths.{content_at}
 use Rattle.cht_core.proofs.Found.{held_live, held_tree}
 use Rattle.cht_core.proofs.cores.Core.look.Goals as goal
 
