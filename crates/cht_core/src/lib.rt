@@ -5,10 +5,12 @@
 mod answers;
 mod asks;
 mod cores;
+mod grants;
 mod looking;
 mod record;
 mod workers;
 
 pub use answers::{Collected, Idle};
 pub use cores::Core;
+pub use grants::{Grant, Grants};
 pub use record::Record;
