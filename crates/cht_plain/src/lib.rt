@@ -1,13 +1,8 @@
-// A library with one function.
+//! The runtime on one thread: one caller, and worker 0, which runs the tasks of an ask while the caller waits.
 #![tactic(auto)]
 
-ghost use Rattle.std.specs.Prelude.{◌≡◌};
-ghost use Rattle.cht_plain.specs.Echo.{echo_of};
+mod calls;
+mod engine;
+mod serving;
 
-// The `ensures` clause is the contract: what `echo` returns is `echo_of` of its argument, a definition
-// in `specs/Echo.antt`, which a caller's clause can cite too.
-pub fn echo(x: usize) -> usize
-    ensures { result ≡ echo_of x }
-{
-    x
-}
+pub use engine::PlainEngine;
