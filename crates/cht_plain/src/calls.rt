@@ -4,12 +4,13 @@ ghost use Rattle.std.specs.FinMap as map;
 ghost use Rattle.cht_ids.specs.declared.refs.Ref.TheVariants.{Id as Held};
 ghost use Rattle.name_machine.specs.Paths.{content_at};
 ghost use Rattle.cht_engine.specs.Seen.{unseen, Holds, MayMention, MayMentionAll, tree_named};
-ghost use Rattle.cht_engine.specs.Calls.{trees_named, IsRegistered, IsCopied, deleted};
+ghost use Rattle.cht_engine.specs.Calls.{trees_named, IsRegistered, IsCopied, deleted, IsAsked};
 ghost use Rattle.cht_engine.specs.Closing.{AreClosed};
 ghost use Rattle.cht_core.specs.Events.{plans_of};
 ghost use Rattle.cht_plain.specs.Alone.{seen_of, IsAtRest, IsWaiting};
 ghost use Rattle.cht_plain.specs.Serving.{waiting_for};
 
+use crate::serving::serve;
 use cht_core::{Core, Record};
 use cht_ids::{Id, Memory, Ref, TaskNo};
 use std::alloc::Global;
@@ -84,8 +85,25 @@ pub fn look<L: Library>(
     core.look(0, id, path)
 }
 
-// The caller asks a task.
-pub fn ask<L: Library>(core: &mut Core<L>, kind: L::Kind, inputs: &[Ref]) -> Result<TaskNo, Memory>
+// The caller asks for a task, waits for it and collects its output.
+pub fn ask<L: Library>(
+    alloc: Global,
+    core: &mut Core<L>,
+    kind: L::Kind,
+    inputs: &[Ref],
+) -> Result<Ref, Memory>
+    requires rest { IsAtRest L.meanings core.old }
+    requires held { MayMentionAll (seen_of L.meanings core.old) inputs.now }
+    requires defined { L.meanings.defined kind (trees_named (seen_of L.meanings core.old) inputs.now) }
+    ensures rest { IsAtRest L.meanings core.new }
+    ensures asked { IsAsked L.meanings (seen_of L.meanings core.old) (seen_of L.meanings core.new) kind inputs.now result }
+{
+    let task = enter(core, kind, inputs)?;
+    serve(alloc, core, task)
+}
+
+// The caller asks a task. Answers the task's number.
+fn enter<L: Library>(core: &mut Core<L>, kind: L::Kind, inputs: &[Ref]) -> Result<TaskNo, Memory>
     requires rest { IsAtRest L.meanings core.old }
     requires held { MayMentionAll (seen_of L.meanings core.old) inputs.now }
     requires defined { L.meanings.defined kind (trees_named (seen_of L.meanings core.old) inputs.now) }

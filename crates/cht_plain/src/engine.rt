@@ -1,14 +1,15 @@
-ghost use Rattle.std.specs.Prelude.{◌≡◌, ◌≤◌, IfOk};
+ghost use Rattle.std.specs.Prelude.{◌≡◌, ◌≤◌, length, IfOk};
 ghost use Rattle.std.specs.FinMap as map;
-ghost use Rattle.cht_engine.specs.Seen.{unseen};
+ghost use Rattle.cht_ids.specs.declared.refs.Ref.TheVariants.{Id as Held};
+ghost use Rattle.name_machine.specs.Paths.{content_at};
+ghost use Rattle.cht_engine.specs.Seen.{unseen, Holds, MayMention, MayMentionAll, tree_named};
+ghost use Rattle.cht_engine.specs.Calls.{trees_named, IsRegistered, IsCopied, deleted, IsAsked};
 ghost use Rattle.cht_engine.specs.Closing.{AreClosed};
 ghost use Rattle.cht_core.specs.Events.{plans_of};
 ghost use Rattle.cht_plain.specs.Alone.{seen_of};
 
 use crate::calls;
-use crate::serving::serve;
 use cht_core::{Core, Record};
-use cht_engine::Engine;
 use cht_ids::{Id, Memory, Ref};
 use std::alloc::Global;
 use std::marker::Model;
@@ -48,6 +49,50 @@ impl<L: Library> PlainEngine<L> {
         Ok(PlainEngine { core, alloc })
     }
 
+    /// Registers a content over what these references name, as in `Engine`.
+    pub fn register(&mut self, content: L::Chunk, children: &[Ref]) -> Result<Id, Memory>
+        requires sound { L.Chunk.sound content }
+        requires held { MayMentionAll (seen_of L.meanings self.old) children.now }
+        requires all_children { length children.now ≡ L.Chunk.arity content }
+        ensures { IsRegistered (seen_of L.meanings self.old) (seen_of L.meanings self.new) content children.now result }
+    {
+        let body = Body::new(self.alloc, content)?;
+        calls::register(&mut self.core, body, children)
+    }
+
+    /// One more identifier of what a reference names, null of null, as in `Engine`.
+    pub fn copy(&mut self, r: Ref) -> Result<Ref, Memory>
+        requires { MayMention (seen_of L.meanings self.old) r }
+        ensures { IsCopied (seen_of L.meanings self.old) (seen_of L.meanings self.new) r result }
+    {
+        calls::copy(&mut self.core, r)
+    }
+
+    /// Deletes an identifier, nothing where the reference is null, as in `Engine`. It takes no memory.
+    pub fn delete(&mut self, r: Ref)
+        requires { MayMention (seen_of L.meanings self.old) r }
+        ensures { seen_of L.meanings self.new ≡ deleted (seen_of L.meanings self.old) r }
+    {
+        calls::delete(&mut self.core, r);
+    }
+
+    /// The content at a path below what an identifier names, as in `Engine`.
+    pub fn look(&self, id: Id, path: &[u8]) -> Result<Option<Shared<L::Chunk>>, Memory>
+        requires { Holds (seen_of L.meanings self.now) id }
+        ensures { IfOk result (λ found. found ≡ content_at (tree_named (seen_of L.meanings self.now) (Held id)) path.now) }
+    {
+        calls::look(&self.core, id, path)
+    }
+
+    /// Asks for a task, runs what there is to run, and collects the output, as in `Engine`. It always returns.
+    pub fn ask(&mut self, kind: L::Kind, inputs: &[Ref]) -> Result<Ref, Memory>
+        requires held { MayMentionAll (seen_of L.meanings self.old) inputs.now }
+        requires defined { L.meanings.defined kind (trees_named (seen_of L.meanings self.old) inputs.now) }
+        ensures { IsAsked L.meanings (seen_of L.meanings self.old) (seen_of L.meanings self.new) kind inputs.now result }
+    {
+        calls::ask(self.alloc, &mut self.core, kind, inputs)
+    }
+
     /// The events of an engine whose caller holds nothing any more. They can be replayed, to the empty state; the caller's own are those
     /// of the calls that were made; and as many tasks were finished as the account says. It takes no memory.
     pub fn close(self) -> Record<L>
@@ -55,43 +100,5 @@ impl<L: Library> PlainEngine<L> {
         ensures { AreClosed (plans_of L.meanings L.Kind.name_of L.Kind.height_of) (seen_of L.meanings self) result }
     {
         calls::close(self.core)
-    }
-}
-
-impl<L: Library> Engine<L> for PlainEngine<L> {
-    type Context = ();
-
-    ghost seen = { seen_of L.meanings };
-
-    fn register(
-        &mut self,
-        _ctx: &mut (),
-        content: L::Chunk,
-        children: &[Ref],
-    ) -> Result<Id, Memory> {
-        let body = Body::new(self.alloc, content)?;
-        calls::register(&mut self.core, body, children)
-    }
-
-    fn copy(&mut self, _ctx: &mut (), r: Ref) -> Result<Ref, Memory> {
-        calls::copy(&mut self.core, r)
-    }
-
-    fn delete(&mut self, _ctx: &mut (), r: Ref) {
-        calls::delete(&mut self.core, r);
-    }
-
-    fn look(
-        &mut self,
-        _ctx: &mut (),
-        id: Id,
-        path: &[u8],
-    ) -> Result<Option<Shared<L::Chunk>>, Memory> {
-        calls::look(&self.core, id, path)
-    }
-
-    fn ask(&mut self, _ctx: &mut (), kind: L::Kind, inputs: &[Ref]) -> Result<Ref, Memory> {
-        let task = calls::ask(&mut self.core, kind, inputs)?;
-        serve(self.alloc, &mut self.core, task)
     }
 }

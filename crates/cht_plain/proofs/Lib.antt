@@ -1,0 +1,4 @@
+mod Chosen
+mod Kept
+mod Mentions
+mod Own
