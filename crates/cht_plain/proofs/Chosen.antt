@@ -1,4 +1,4 @@
--- Chosen values of a map, where a value is put under a key, and where one goes; and counts of a list with one item more.
+-- Chosen values of a map, where a value is put under a key, and where one goes.
 use Rattle.std.proofs.Common.{◌≡◌, ℕ, ◌+◌, Bool, true, false, cond, nat_cmp, List, [], ◌∷◌, ◌++◌, count_by, Option, None, Some, inl, inr, refl, sym, ap, ◌∙◌, arith}
 use Rattle.std.specs.Option.{option_and_then}
 use Rattle.std.specs.FinMap as map
@@ -43,19 +43,9 @@ module _ {X Y : Type 0} (choice : ℕ → X → Option Y) where
       same_maps _ _ (λ q. get-chosen choice map.empty q ∙ ap (option_and_then (choice q)) (map.get-empty nat_cmp q) ∙ sym (map.get-empty nat_cmp q))
 
 -- a map of one value, without it
-pub one_less : {X : Type 0} (k : ℕ) (x : X) → map.remove (map.insert map.empty k x) k ≡ map.empty
+pub one_less : {X : Type 0} (k : ℕ) (x : X) → map.remove {R = nat_cmp} (map.insert map.empty k x) k ≡ map.empty
 one_less k x =
     same_maps _ _ (λ q. elim (same_or_not q k) [
       | inl same ↦ removed_here (map.insert map.empty k x) k q same ∙ sym (map.get-empty nat_cmp q)
       | inr apart ↦ removed_other (map.insert map.empty k x) k q apart ∙ inserted_other map.empty k q x apart
     ])
-
--- one item more
-pub count_more : {X : Type 0} (test : X → Bool) (xs : List X) (x : X) → count_by test (xs ++ x ∷ []) ≡ count_by test xs + cond (test x) 1 0
-count_more test [] x = elim (test x) as (λ b. cond b 1 0 ≡ 0 + cond b 1 0) [ true ↦ refl | false ↦ refl ]
-count_more test (y ∷ xs) x =
-    let more = count_more test xs x in
-    elim (test y) as (λ b. cond b (1 + count_by test (xs ++ x ∷ [])) (count_by test (xs ++ x ∷ [])) ≡ cond b (1 + count_by test xs) (count_by test xs) + cond (test x) 1 0) [
-      | true ↦ omega arith
-      | false ↦ omega arith
-    ]

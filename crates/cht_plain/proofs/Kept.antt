@@ -2,6 +2,7 @@
 use Rattle.std.proofs.Common.{◌≡◌, ℕ, ◌+◌, Bool, true, false, cond, nat_cmp, List, [], ◌∷◌, ◌++◌, filter, append-nil, count_by, refl, sym, ap, subst, ◌∙◌, arith}
 use Rattle.std.specs.FinMap as map
 use Rattle.std.proofs.lemmas.List.Elements.{filter-append}
+use Rattle.std.proofs.lemmas.List.Sums.{sum_by_push}
 use Rattle.task_types.specs.Meanings.{Meanings}
 use Rattle.cht_history.specs.declared.event.Event.{Event}
 use Rattle.name_machine.specs.Parts.{untold, told_after, is_callers_own, finishes_by, finishes_of, CallerPart}
@@ -10,7 +11,6 @@ use Rattle.core_state.specs.Contents.{Contents}
 use Rattle.cht_core.specs.Events.{state, Happens}
 use Rattle.cht_engine.specs.Closing.{is_finish}
 use Rattle.cht_plain.specs.Alone.{IsAlone, IsAbsent}
-use Rattle.cht_plain.proofs.Chosen.{count_more}
 
 module _ {C K : Type 0} (lib : Meanings C K) (arity : C → ℕ) (before after : Contents C K) (event : Event K) (happens : Happens lib arity before after event) where
   -- as many tasks of the caller as an event finishes, so many it finishes
@@ -20,7 +20,7 @@ module _ {C K : Type 0} (lib : Meanings C K) (arity : C → ℕ) (before after :
   counted_then : count_by is_finish before.events ≡ finishes_of 0 before.events → IsCounted → count_by is_finish after.events ≡ finishes_of 0 after.events
   counted_then counted same =
       ap (count_by is_finish) happens.written
-      ∙ count_more is_finish before.events event
+      ∙ sum_by_push (λ (e : Event K). cond (is_finish e) 1 0) before.events event
       ∙ (λ i. counted i + same i)
       ∙ sym (finishes_then untold 0 before.events event)
       ∙ ap (finishes_of 0) (sym happens.written)

@@ -1,4 +1,7 @@
+mod Absent
+mod Asked
 mod Chosen
+mod Closed
 mod Kept
 mod Mentions
 mod Own

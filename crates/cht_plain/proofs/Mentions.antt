@@ -21,7 +21,7 @@ module _ {C : Type 0} where
   abbrev shown : ℕ → ℕ → Option (Holding C) → Option (Named C)
   shown caller number o = option_and_then (named_for caller number) o
 
-  owned : (owner own : ℕ) (h : Holding C) → is_some (cond (nat_eq own owner) (Some (record { owner = own; tree = h.tree })) None) ≡ true
+  owned : (owner own : ℕ) (h : Holding C) → is_some {T = Named C} (cond (nat_eq own owner) (Some (record { owner = own; tree = h.tree })) None) ≡ true
       → is_some (cond (nat_eq own owner) (Some h) None) ≡ true
   owned owner own h is =
       elim (nat_eq own owner) as (λ b. is_some {T = Named C} (cond b (Some (record { owner = own; tree = h.tree })) None) ≡ true → is_some (cond b (Some h) None) ≡ true) [
