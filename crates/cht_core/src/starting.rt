@@ -48,7 +48,6 @@ pub enum Abandoned {
 impl<L: Library> Core<L> {
     /// A worker that runs nothing begins a task, where it is Ready.
     pub fn start(&mut self, w: u32, task: TaskNo) -> Start<L>
-        requires stub { ⊥ }
         requires worker { w < self.old.workers }
         requires idle { IsIdleIn (state L.meanings self.old) w }
         ensures { IsStarted L.meanings L.Chunk.arity self.old self.new w task result }
@@ -58,7 +57,6 @@ impl<L: Library> Core<L> {
 
     /// The outcome of the task that a worker runs takes effect.
     pub fn finish(&mut self, w: u32, outcome: Outcome<L::Chunk, L::Kind>) -> Result<List<TaskNo>, Memory>
-        requires stub { ⊥ }
         requires worker { w < self.old.workers }
         requires sound {
             (task : ℕ) × (unfinished : Unfinished (Tree L.Chunk) L.Kind) × (RunsIn (state L.meanings self.old) w task)
