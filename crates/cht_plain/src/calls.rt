@@ -98,8 +98,10 @@ pub fn ask<L: Library>(
     ensures rest { IsAtRest L.meanings core.new }
     ensures asked { IsAsked L.meanings (seen_of L.meanings core.old) (seen_of L.meanings core.new) kind inputs.now result }
 {
-    let task = enter(core, kind, inputs)?;
-    serve(alloc, core, task)
+    match enter(core, kind, inputs) {
+        Ok(task) => serve(alloc, core, task),
+        Err(memory) => Err(memory),
+    }
 }
 
 // The caller asks a task. Answers the task's number.
