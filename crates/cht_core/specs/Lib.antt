@@ -1,4 +1,2 @@
 pub mod Answers
 pub mod Events
-pub mod Granted
-pub mod Started

@@ -5,14 +5,10 @@
 mod answers;
 mod asks;
 mod cores;
-mod grants;
 mod looking;
 mod record;
-mod starting;
 mod workers;
 
 pub use answers::{Collected, Idle};
 pub use cores::Core;
-pub use grants::{Grant, Grants};
 pub use record::Record;
-pub use starting::{Abandoned, Start, Started};
