@@ -41,7 +41,7 @@ ok_and : {A E : Type 0} (P Q R : A → Type 0) (result : Result A E) → ((x : A
 ok_and P Q R (Ok x) both p q = both x p q
 ok_and P Q R (Err e) both p q = tt
 
-ok_to : {A E : Type 0} (P R : A → Type 0) (result : Result A E) → ((x : A) → P x → R x) → IfOk result P → IfOk result R
+pub ok_to : {A E : Type 0} (P R : A → Type 0) (result : Result A E) → ((x : A) → P x → R x) → IfOk result P → IfOk result R
 ok_to P R (Ok x) to p = to x p
 ok_to P R (Err e) to p = tt
 

@@ -1,2 +1,4 @@
 pub mod Answers
 pub mod Events
+pub mod Granted
+pub mod Started

@@ -1,4 +1,29 @@
+use crate::grants::Grants;
 use cht_ids::{Ref, TaskNo};
+use task_states::TaskStatus;
+use task_types::Library;
+
+/// An execution that a worker begins.
+#[derive(Drop)]
+pub struct Started<L: Library> {
+    /// The task.
+    pub task: TaskNo,
+    /// Its kind.
+    pub kind: L::Kind,
+    /// What the worker gets of its inputs.
+    pub inputs: Grants<L::Chunk>,
+}
+
+/// Whether a worker begins a task.
+#[derive(Drop)]
+pub enum Start<L: Library> {
+    /// It does.
+    Started(Started<L>),
+    /// The task is not Ready: this is its status.
+    NotReady(TaskStatus),
+    /// There is not enough memory.
+    Memory,
+}
 
 /// What there is to do for a worker that runs nothing.
 #[derive(Clone, Copy, Debug, PartialEq, Eq)]

@@ -5,10 +5,13 @@
 mod answers;
 mod asks;
 mod cores;
+mod granting;
+mod grants;
 mod looking;
 mod record;
 mod workers;
 
-pub use answers::{Collected, Idle};
+pub use answers::{Collected, Idle, Start, Started};
 pub use cores::Core;
+pub use grants::{Grant, Grants};
 pub use record::Record;

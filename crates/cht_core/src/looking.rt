@@ -39,8 +39,8 @@ impl<L: Library> Core<L> {
         }
     }
 
-    // The child of a live identifier's body with this number, counted from 0; null where there is none.
-    fn child(&self, id: Id, j: u8) -> Ref
+    /// The child of a live identifier's body with this number, counted from 0; null where there is none.
+    pub(crate) fn child(&self, id: Id, j: u8) -> Ref
         requires { IsLive self.now.control.names id }
         ensures live { IsLiveRef self.now.control.names result }
         ensures tree { tree_of self.now.control.names result ≡ child (tree_of self.now.control.names (Held id)) j }

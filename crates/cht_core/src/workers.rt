@@ -1,15 +1,74 @@
-ghost use Rattle.std.specs.Prelude.{◌≡◌, ℕ, ◌<◌, IfSome, IfNone};
+ghost use Rattle.std.specs.Prelude.{◌≡◌, ℕ, ◌<◌, Some, IfOk, OnErr, IfSome, IfNone};
+ghost use Rattle.task_types.specs.Tree.{Tree};
+ghost use Rattle.task_types.specs.Sound.{IsSound};
 ghost use Rattle.cht_history.specs.declared.event.Event.TheVariants.{GiveBack};
+ghost use Rattle.task_states.specs.declared.states.TaskStatus.TheVariants.{Ready};
+ghost use Rattle.task_states.specs.States.{Unfinished, task_at, status as status_at};
 ghost use Rattle.name_machine.specs.States.{Runs as RunsIn, IsIdle as IsIdleIn};
+ghost use Rattle.name_machine.specs.Steps.{input_trees};
+ghost use Rattle.core_steps.specs.Conditions.{finish_of};
+ghost use Rattle.core_steps.specs.NewlyReady.{AreNewlyReady};
 ghost use Rattle.cht_core.specs.Events.{state, Happens};
 ghost use Rattle.cht_core.specs.Answers.{IsToDo};
+ghost use Rattle.cht_core.specs.Started.{IsStarted};
 
-use crate::answers::Idle;
+use crate::answers::{Idle, Start, Started};
 use crate::cores::Core;
-use cht_ids::TaskNo;
-use task_types::Library;
+use cht_ids::{List, Memory, TaskNo};
+use task_states::TaskStatus;
+use task_types::laws::plans_decided;
+use task_types::{Library, Outcome};
 
 impl<L: Library> Core<L> {
+    /// A worker that runs nothing begins a task, where it is Ready. It gets the task's kind, and of each input that is not null the content,
+    /// which is the owner's object, and the mask of the children that are there.
+    pub fn start(&mut self, w: u32, task: TaskNo) -> Start<L>
+        requires worker { w < self.old.workers }
+        requires idle { IsIdleIn (state L.meanings self.old) w }
+        ensures { IsStarted L.meanings L.Chunk.arity self.old self.new w task result }
+    {
+        match self.kept.status(task) {
+            TaskStatus::Ready => self.start_ready(w, task),
+            status => Start::NotReady(status),
+        }
+    }
+
+    // The same for a task that is Ready.
+    fn start_ready(&mut self, w: u32, task: TaskNo) -> Start<L>
+        requires worker { w < self.old.workers }
+        requires idle { IsIdleIn (state L.meanings self.old) w }
+        requires ready { status_at self.old.control.graph task ≡ Ready }
+        ensures { IsStarted L.meanings L.Chunk.arity self.old self.new w task result }
+    {
+        let kind = self.kept.kind(task);
+        let Ok(inputs) = self.grants(task) else {
+            return Start::Memory;
+        };
+        let Ok(()) = self.kept.start(w, task) else {
+            return Start::Memory;
+        };
+        Start::Started(Started { task, kind, inputs })
+    }
+
+    /// The outcome of the task that a worker runs takes effect: its new chunks are registered on the worker, its new tasks are there, what
+    /// awaited it gets its output or awaits the new task that gives it, and it goes. Answers the tasks that became Ready, by rising
+    /// number. It takes all its memory first; after `Memory` the outcome is dropped.
+    pub fn finish(
+        &mut self,
+        w: u32,
+        outcome: Outcome<L::Chunk, L::Kind>,
+    ) -> Result<List<TaskNo>, Memory>
+        requires worker { w < self.old.workers }
+        requires sound { (task : ℕ) × (unfinished : Unfinished (Tree L.Chunk) L.Kind) × RunsIn (state L.meanings self.old) w task
+            × (task_at (state L.meanings self.old).graph task ≡ Some unfinished) × IsSound L.Chunk.arity L.meanings unfinished.kind (input_trees unfinished) outcome }
+        ensures event { IfOk result (λ ready. (task : ℕ) → RunsIn (state L.meanings self.old) w task → Happens L.meanings L.Chunk.arity self.old self.new (finish_of w task outcome)) }
+        ensures ready { IfOk result (AreNewlyReady (state L.meanings self.old).graph (state L.meanings self.new).graph) }
+        ensures unchanged { OnErr result (self.new ≡ self.old) }
+    {
+        plans_decided::<L::Kind>();
+        self.kept.finish(w, outcome)
+    }
+
     /// A worker gives the task back that it runs, which is Ready again. It takes no memory.
     pub fn give_back(&mut self, w: u32)
         requires worker { w < self.old.workers }

@@ -4,6 +4,7 @@
 
 mod asked;
 mod asks;
+mod finish;
 mod inputs;
 mod names;
 mod rows;

@@ -1,0 +1,53 @@
+-- What a worker is granted of the inputs of a task, and what it shows.
+use Rattle.std.specs.Prelude.{ℕ, List}
+use Rattle.task_types.specs.Tree.{Tree, Nothing as NoTree, Root, is_there, child}
+use Rattle.task_types.specs.Shown.{mask, Shows}
+use Rattle.task_types.specs.declared.inputs.View.{View}
+use Rattle.task_types.specs.declared.inputs.View.TheVariants as view
+use Rattle.task_types.specs.declared.inputs.Inputs.{Inputs}
+use Rattle.cht_core.specs.declared.grants.Grant.{Grant}
+use Rattle.cht_core.specs.declared.grants.Grant.TheVariants.{Nothing, Own, Cached, Bytes}
+use Rattle.cht_core.specs.declared.grants.Grants.{Grants}
+
+module _ {C : Type 0} where
+  -- an input is null, or of the worker's own store
+  abbrev pub IsOwn : Grant C → Type 0
+  IsOwn Nothing = Unit {0}
+  IsOwn (Own content present) = Unit {0}
+  IsOwn (Cached content present) = ⊥
+  IsOwn (Bytes bytes present) = ⊥
+
+  -- each input is so
+  abbrev pub AreOwn : Grants C → Type 0
+  AreOwn grants = IsOwn grants.first × IsOwn grants.second × IsOwn grants.third × IsOwn grants.fourth
+
+  -- what a grant shows of an input; bytes show nothing until they are unpacked
+  abbrev pub view_granted : Grant C → View C
+  view_granted Nothing = view.Nothing
+  view_granted (Own content present) = view.There content present
+  view_granted (Cached content present) = view.There content present
+  view_granted (Bytes bytes present) = view.Nothing
+
+  -- what grants show of all inputs
+  abbrev pub inputs_granted : Grants C → Inputs C
+  inputs_granted grants =
+      record {
+        count = grants.count;
+        first = view_granted grants.first;
+        second = view_granted grants.second;
+        third = view_granted grants.third;
+        fourth = view_granted grants.fourth;
+      }
+
+  -- the mask of the children of a tree that are there
+  abbrev pub mask_of : Tree C → ℕ
+  mask_of tree = mask (is_there (child tree 0)) (is_there (child tree 1)) (is_there (child tree 2)) (is_there (child tree 3))
+
+  -- a tree, granted as the owner's object
+  abbrev pub own_of : Tree C → Grant C
+  own_of NoTree = Nothing
+  own_of (Root content a b c d) = Own content (mask (is_there a) (is_there b) (is_there c) (is_there d))
+
+  -- what is granted shows these trees, and each is null or of the worker's own store
+  abbrev pub IsGrantedOwn : List (Tree C) → Grants C → Type 0
+  IsGrantedOwn trees grants = AreOwn grants × Shows (inputs_granted grants) trees
