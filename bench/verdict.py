@@ -6,10 +6,12 @@ against the rules of the language, and prints the best time, the peak memory, an
 in proportion to the bytes. Usage: bench/verdict.py
 """
 import os
+import random
 import subprocess
 import sys
 import tempfile
 import time
+from concurrent.futures import ProcessPoolExecutor
 
 from parts import PROGRAM
 
@@ -69,6 +71,22 @@ def late_fault(size):
     return "".join(parts), f"cht: line {count + 5}: fault 5 Number\n"
 
 
+def late_fault_in_any_order(size):
+    """Entries of places in any order, with a value that is no number in the last line: code 5 there."""
+    order = random.Random(7)
+    places = list(range(4096 * 4096))
+    order.shuffle(places)
+    parts = [f"grid 4096 leaf 32\nmarket a\n{BANNER}4096 4096 16777216\n"]
+    length, count = len(parts[0]), 0
+    while length < size - 32:
+        line = f"{places[count] // 4096 + 1} {places[count] % 4096 + 1} 7\n"
+        parts.append(line)
+        length += len(line)
+        count += 1
+    parts.append("1 1 x\n")
+    return "".join(parts), f"cht: line {count + 5}: fault 5 Number\n"
+
+
 INPUTS = [
     ("one long line", one_line),
     ("blank lines", blank_lines),
@@ -76,6 +94,7 @@ INPUTS = [
     ("a new name in each line", many_names),
     ("one place over and over", one_place),
     ("entries in order, the last one broken", late_fault),
+    ("entries in any order, the last one broken", late_fault_in_any_order),
 ]
 
 
@@ -97,6 +116,14 @@ def judged(path, wanted):
     return best, peak
 
 
+def write_input(made, size, path):
+    """Writes an input, and answers what the program is to tell of it."""
+    text, wanted = made(size)
+    with open(path, "w") as out:
+        out.write(text)
+    return wanted
+
+
 def main():
     if not os.path.exists(PROGRAM):
         sys.exit("build the program first: bin/cht plain < examples/first.cht")
@@ -106,9 +133,9 @@ def main():
         for name, made in INPUTS:
             times = []
             for size in (WHOLE // 2, WHOLE):
-                text, wanted = made(size)
-                with open(path, "w") as out:
-                    out.write(text)
+                # In a process of its own: a child's peak of memory is at least that of the process that it was made from.
+                with ProcessPoolExecutor(max_workers=1) as writer:
+                    wanted = writer.submit(write_input, made, size, path).result()
                 times.append(judged(path, wanted))
             growth = times[1][0] / times[0][0]
             worst = max(worst, growth)

@@ -26,9 +26,9 @@ use Rattle.name_machine.proofs.Values.{any_from}
 use Rattle.name_machine.proofs.Works.{chosen_from, let_through, lets_through}
 use Rattle.core_state.specs.Contents.{Contents}
 use Rattle.cht_core.specs.Events.{state, Happens}
-use Rattle.cht_core.specs.Started.{IsAbandoned}
-use Rattle.cht_core.specs.declared.starting.Abandoned.{Abandoned}
-use Rattle.cht_core.specs.declared.starting.Abandoned.TheVariants.{Gone, StillRunning}
+use Rattle.cht_core.specs.Answers.{IsAbandoned}
+use Rattle.cht_core.specs.declared.answers.Abandoned.{Abandoned}
+use Rattle.cht_core.specs.declared.answers.Abandoned.TheVariants.{Gone, StillRunning}
 use Rattle.cht_engine.specs.Seen.{Seen, IsNew}
 use Rattle.cht_engine.specs.Calls.{IsOutput, with_output}
 use Rattle.cht_plain.specs.Alone.{seen_of, IsAlone, IsAtRest, IsWaiting}
@@ -166,7 +166,7 @@ module _ {C K : Type 0} (lib : Meanings C K) (arity : C → ℕ) (before after :
     asks_one = let a = ask_awaited lib before task goal awaits in any_from (is_of 0) (state lib before).asks task a.0 a.1 (ap (λ k. nat_eq k 0) a.2)
 
     happened : (answer : Abandoned) → IsAbandoned lib arity before after 0 answer → Happens lib arity before after (Abandon 0)
-    happened Gone gone = gone.happens asks_one
+    happened Gone gone = gone.gives_up asks_one
     happened (StillRunning n) runs = absurd (let some = runs.1 in let count = runs.0 in let none = none_running in omega arith)
 
     pub abandoned_rests : (answer : Abandoned) → IsAbandoned lib arity before after 0 answer → IsAtRest lib after

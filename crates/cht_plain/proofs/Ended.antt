@@ -24,7 +24,7 @@ use Rattle.core_steps.specs.Conditions.{finish_of}
 use Rattle.core_state.specs.Contents.{Contents}
 use Rattle.cht_core.specs.Events.{state, Happens}
 use Rattle.cht_core.specs.Granted.{inputs_granted}
-use Rattle.cht_core.specs.declared.starting.Started.{Started}
+use Rattle.cht_core.specs.declared.answers.Started.{Started}
 use Rattle.cht_plain.specs.Alone.{seen_of, left, IsAlone, IsWaiting, IsBusy, Executes}
 use Rattle.cht_plain.proofs.Absent.{task_by}
 use Rattle.cht_plain.proofs.Kept.{alone_then}

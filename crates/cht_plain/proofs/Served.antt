@@ -10,8 +10,8 @@ use Rattle.name_machine.specs.Facts.{HoldsTogether}
 use Rattle.core_state.specs.Contents.{Contents}
 use Rattle.cht_core.specs.Events.{state, Happens}
 use Rattle.cht_core.specs.Answers.{HasAsked, IsNotDelivered}
-use Rattle.cht_core.specs.Started.{IsAbandoned}
-use Rattle.cht_core.specs.declared.starting.Abandoned.{Abandoned}
+use Rattle.cht_core.specs.Answers.{IsAbandoned}
+use Rattle.cht_core.specs.declared.answers.Abandoned.{Abandoned}
 use Rattle.cht_engine.specs.Seen.{Seen}
 use Rattle.cht_engine.specs.Calls.{IsOutput}
 use Rattle.cht_plain.specs.Alone.{seen_of, IsAtRest, IsWaiting}

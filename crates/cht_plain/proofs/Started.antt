@@ -11,7 +11,7 @@ use Rattle.name_machine.specs.Parts.{untold, told_after, is_callers_own, finishe
 use Rattle.name_machine.proofs.Tasks.{changed_here, changed_from}
 use Rattle.name_machine.proofs.Telling.{finishes_then}
 use Rattle.core_state.specs.Contents.{Contents}
-use Rattle.cht_core.specs.declared.starting.Started.{Started}
+use Rattle.cht_core.specs.declared.answers.Started.{Started}
 use Rattle.cht_core.specs.Events.{state, Happens}
 use Rattle.cht_core.specs.Started.{IsBegun}
 use Rattle.cht_engine.specs.Seen.{Seen, seen_by}

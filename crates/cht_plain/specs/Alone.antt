@@ -11,7 +11,7 @@ use Rattle.name_machine.specs.Parts.{names_of, asks_of, caller_part, finishes_of
 use Rattle.core_state.specs.Contents.{Contents}
 use Rattle.cht_core.specs.Events.{state}
 use Rattle.cht_core.specs.Granted.{AreOwn, inputs_granted}
-use Rattle.cht_core.specs.declared.starting.Started.{Started}
+use Rattle.cht_core.specs.declared.answers.Started.{Started}
 use Rattle.cht_engine.specs.Seen.{Seen, seen_by}
 use Rattle.cht_engine.specs.Closing.{is_finish}
 

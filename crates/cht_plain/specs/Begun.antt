@@ -3,7 +3,7 @@ use Rattle.std.specs.Prelude.{◌≡◌, Option, None, Some, Result, Ok, Err}
 use Rattle.cht_ids.specs.declared.memory.Memory.{Memory}
 use Rattle.task_types.specs.Meanings.{Meanings}
 use Rattle.core_state.specs.Contents.{Contents}
-use Rattle.cht_core.specs.declared.starting.Started.{Started}
+use Rattle.cht_core.specs.declared.answers.Started.{Started}
 use Rattle.cht_plain.specs.Alone.{seen_of, left, Executes}
 
 module _ {L C K : Type 0} (lib : Meanings C K) (before after : Contents C K) where

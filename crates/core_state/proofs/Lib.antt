@@ -11,3 +11,10 @@ pub mod FourInputs
 pub mod NewAsk
 pub mod Fresh
 pub mod Emptied
+pub mod Ended
+pub mod TasksEnded
+pub mod OutputsEnded
+pub mod GivenUp
+pub mod Resolving
+pub mod Effects
+pub mod Finished

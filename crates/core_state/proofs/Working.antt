@@ -87,10 +87,10 @@ pub ran_is : (running : List (Option ℕ)) (worker task : ℕ) (now : Option ℕ
     → slice_get running worker ≡ Some (Some task)
 ran_is running worker task now within read is = slice_get_read running (length running) worker now refl within read ∙ ap Some is
 
-abbrev one_for : Option ℕ → ℕ
+abbrev pub one_for : Option ℕ → ℕ
 one_for o = cond (is_some o) 1 0
 
-count_set : (xs : List (Option ℕ)) (i : ℕ) (old new : Option ℕ) → slice_get xs i ≡ Some old
+pub count_set : (xs : List (Option ℕ)) (i : ℕ) (old new : Option ℕ) → slice_get xs i ≡ Some old
     → count_by is_some (slice_set xs i new) + one_for old ≡ count_by is_some xs + one_for new
 count_set [] i old new is = absurd (none_not_some refl is)
 count_set (x ∷ xs) zero old new is =

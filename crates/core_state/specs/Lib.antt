@@ -5,3 +5,5 @@ pub mod Lists
 pub mod Asked
 pub mod Needed
 pub mod Inside
+pub mod Ended
+pub mod Effect

@@ -1,18 +1,300 @@
-ghost use Rattle.std.specs.Prelude.{◌≡◌, ℕ, ◌<◌, IfOk, OnErr};
+// The outcome of a task takes effect.
+ghost use Rattle.std.specs.Prelude.{◌≡◌, ◌↔◌, ◌⊎◌, ℕ, ◌+◌, ◌<◌, ◌≤◌, ◌^◌, nat_eq, [], length, map as each, vec_len, vec_capacity, Some, IfOk, OnOk, OnErr, IsSome};
+ghost use Rattle.std.specs.List.{Contains, IsDistinct};
+ghost use Rattle.std.specs.List.Sorted.{IsStrictlyIncreasing};
 ghost use Rattle.cht_ids.specs.declared.refs.Ref.{Ref as AnyRef};
-ghost use Rattle.task_states.specs.States.{Unfinished};
-ghost use Rattle.core_state.specs.Contents.{after_event};
+ghost use Rattle.cht_ids.specs.declared.refs.Ref.TheVariants.{Null as NullRef};
+ghost use Rattle.task_types.specs.declared.outcome.Place.{Place as AnyPlace};
+ghost use Rattle.task_types.specs.declared.outcome.Place.TheVariants.{Null, Task};
+ghost use Rattle.name_states.specs.States.{IsLiveRef};
+ghost use Rattle.task_states.specs.declared.states.TaskStatus.TheVariants.{Waiting};
+ghost use Rattle.task_states.specs.Maps.{each_changed};
+ghost use Rattle.task_states.specs.States.{Unfinished, task_at, asked_of, status};
+ghost use Rattle.task_states.specs.Steps.{all_delivered};
+ghost use Rattle.task_states.specs.Listing.{awaiters};
+ghost use Rattle.task_graph.specs.Contents.{input_of};
+ghost use Rattle.chunk_refs.specs.Room.{workers_of, spare_of};
+ghost use Rattle.name_machine.specs.NewTasks.{number_at};
+ghost use Rattle.name_machine.specs.Control.{ref_known, with_number, copies_of, awaiting, answered_with, resolved_to, tidied, after_finish};
 ghost use Rattle.core_steps.specs.Begin.{CanFinish};
 ghost use Rattle.core_steps.specs.Conditions.{RunsTask, bodies_of, finish_of};
+ghost use Rattle.core_steps.specs.Delivered.{AreSetApart, IsNowReady};
 ghost use Rattle.core_steps.specs.NewlyReady.{AreNewlyReady};
+ghost use Rattle.core_state.specs.Contents.{after_event};
+ghost use Rattle.core_state.specs.Effect.{control_of, task_named, HasRoom, CanForward};
 
+use crate::asked::Asks;
 use crate::state::CoreState;
-use cht_ids::{List, Memory, TaskNo};
-use task_types::{Outcome, Payload};
+use cht_history::Event;
+use cht_ids::{Counter, List, Memory, Ref, TaskNo};
+use chunk_refs::Refs;
+use core_steps::{add_tasks, end_task, list_ready, read_place, register_chunks, renumbered, settle};
+use std::alloc::Global;
+use task_graph::Tasks;
+use task_states::Slot;
+use task_types::{NewChunk, NewTask, Outcome, Payload, Place, Places};
+
+// What an outcome fills: the references of the task's inputs and of its new chunks, the numbers of its new tasks, and the tasks that
+// became Ready.
+#[derive(Drop)]
+pub(crate) struct Space {
+    pub inputs: Vec<Ref>,
+    pub made: Vec<Ref>,
+    pub numbers: Vec<TaskNo>,
+    pub ready: Vec<TaskNo>,
+}
+
+// What an input names; null where it is awaited.
+fn known_of(slot: Slot) -> Ref
+    ensures { result ≡ ref_known (input_of slot) }
+{
+    match slot {
+        Slot::Known(r) => r,
+        Slot::Awaits(_, _) => Ref::Null,
+    }
+}
+
+// What the inputs of a task name.
+fn read_inputs<K: Copy>(alloc: Global, graph: &Tasks<K>, task: TaskNo) -> Result<Vec<Ref>, Memory>
+    requires { IsSome (task_at graph.now.graph task) }
+    ensures { (ran : Unfinished AnyRef K) → task_at graph.now.graph task ≡ Some ran → IfOk result (λ inputs. inputs.items ≡ each ref_known ran.inputs) }
+{
+    let mut inputs = Vec::new(alloc);
+    let mut place = 0;
+    while let Some(slot) = graph.input(task, place) {
+        inputs.push(known_of(slot))?;
+        place += 1;
+    }
+    Ok(inputs)
+}
+
+// The places of the children of each new chunk.
+fn child_places<C: Payload>(
+    alloc: Global,
+    chunks: &[NewChunk<C>],
+) -> Result<List<Places>, Memory>
+    ensures { IfOk result (λ places. places ≡ each (λ chunk. chunk.children) chunks.now) }
+{
+    let mut places = Vec::new(alloc);
+    for chunk in chunks {
+        places.push(chunk.children)?;
+    }
+    Ok(List::from_vec(places))
+}
+
+// Room for 8 chunks, 16 tasks and a copy for each that awaits a task. Answers how many these are.
+fn make_finish_room<C: Payload, K: Copy>(
+    names: &mut Refs<C>,
+    graph: &mut Tasks<K>,
+    w: u32,
+    task: TaskNo,
+) -> Result<u32, Memory>
+    requires { w < workers_of names.old }
+    ensures names { names.new.names ≡ names.old.names }
+    ensures stores { length names.new.room.bodies ≡ length names.old.room.bodies }
+    ensures graph { graph.new.graph ≡ graph.old.graph }
+    ensures count { IfOk result (λ count. count ≡ length (awaiters graph.old.graph task)) }
+    ensures few { IfOk result (λ count. count < 2 ^ 31) }
+    ensures bodies { OnOk result (8 ≤ spare_of names.new w) }
+    ensures ids { IfOk result (λ count. 104 + count ≤ names.new.room.ids) }
+    ensures tasks { OnOk result (16 ≤ graph.new.spare) }
+{
+    let count = graph.awaiters(task).ok_or(Memory)?;
+    if count >= 1 << 31 {
+        return Err(Memory);
+    }
+    names.reserve(w, 8, 104 + count)?;
+    graph.reserve(16)?;
+    Ok(count)
+}
+
+// What an outcome fills, with room for all of it.
+fn make_space<K: Copy>(alloc: Global, graph: &Tasks<K>, task: TaskNo, count: u32) -> Result<Space, Memory>
+    requires there { IsSome (task_at graph.now.graph task) }
+    requires count { count ≡ length (awaiters graph.now.graph task) }
+    requires few { count < 2 ^ 31 }
+    ensures { IfOk result (HasRoom graph.now.graph task) }
+{
+    let inputs = read_inputs(alloc, graph, task)?;
+    let made = Vec::with_capacity(alloc, 8)?;
+    let numbers = Vec::with_capacity(alloc, 16)?;
+    let ready = Vec::with_capacity(alloc, 16 + count as usize)?;
+    Ok(Space {
+        inputs,
+        made,
+        numbers,
+        ready,
+    })
+}
+
+// All that awaits a task gets a copy of what a reference names, and so does the ask.
+fn settle_all<C: Payload, K: Copy>(
+    names: &mut Refs<C>,
+    graph: &mut Tasks<K>,
+    asks: &mut Asks,
+    task: TaskNo,
+    r: Ref,
+    ready: &mut Vec<TaskNo>,
+)
+    requires live { IsLiveRef names.old.names r }
+    requires apart { AreSetApart names.old.names graph.old.graph task }
+    requires room { length (awaiters graph.old.graph task) ≤ names.old.room.ids }
+    requires capacity { vec_len ready.old + length (awaiters graph.old.graph task) ≤ vec_capacity ready.old }
+    ensures names { names.new.names ≡ copies_of names.old.names r (awaiting graph.old.graph task) }
+    ensures graph { graph.new.graph ≡ all_delivered graph.old.graph task (with_number r) }
+    ensures asks { asks.new.asks ≡ each_changed (answered_with (asked_of graph.old.graph task) r) asks.old.asks }
+    ensures callers { length asks.new.rooms ≡ length asks.old.rooms }
+    ensures ready { (q : ℕ) → Contains ready.new.items q ↔ (Contains ready.old.items q ⊎ IsNowReady graph.old.graph graph.new.graph q) }
+    ensures distinct { IsDistinct nat_eq ready.old.items → ((q : ℕ) → Contains ready.old.items q → status graph.old.graph q ≡ Waiting → ⊥) → IsDistinct nat_eq ready.new.items }
+    ensures stores { length names.new.room.bodies ≡ length names.old.room.bodies }
+{
+    match settle(names, graph, task, r, ready) {
+        None => {}
+        Some(number) => asks.answer(number, renumbered(r, number)),
+    }
+}
+
+// The number of the new task whose output a result is, if it is one.
+fn new_task(place: Place, numbers: &[TaskNo]) -> Option<TaskNo>
+    requires { (i : ℕ) → place ≡ Task i → i < length numbers.now }
+    ensures { result ≡ task_named numbers.now place }
+{
+    match place {
+        Place::Null => None,
+        Place::Input(_) => None,
+        Place::Child(_, _) => None,
+        Place::Chunk(_) => None,
+        Place::Task(i) => Some(numbers[i as usize]),
+    }
+}
+
+// All that awaits a task awaits the new one whose output its result is, or gets a copy of what the result names.
+fn resolve<C: Payload, K: Copy>(
+    names: &mut Refs<C>,
+    graph: &mut Tasks<K>,
+    asks: &mut Asks,
+    task: TaskNo,
+    place: Place,
+    output: Ref,
+    numbers: &[TaskNo],
+    ready: &mut Vec<TaskNo>,
+)
+    requires live { IsLiveRef names.old.names output }
+    requires apart { AreSetApart names.old.names graph.old.graph task }
+    requires room { length (awaiters graph.old.graph task) ≤ names.old.room.ids }
+    requires capacity { vec_len ready.old + length (awaiters graph.old.graph task) ≤ vec_capacity ready.old }
+    requires forward { (i : ℕ) → place ≡ Task i → CanForward graph.old.graph task numbers.now i }
+    ensures resolved { (drawn : ℕ) (read : AnyPlace → AnyRef) → read Null ≡ NullRef → output ≡ read place
+        → control_of drawn names.new.names asks.new.asks graph.new.graph
+        ≡ resolved_to (control_of drawn names.old.names asks.old.asks graph.old.graph) task numbers.now read place }
+    ensures callers { length asks.new.rooms ≡ length asks.old.rooms }
+    ensures ready { (q : ℕ) → Contains ready.new.items q ↔ (Contains ready.old.items q ⊎ IsNowReady graph.old.graph graph.new.graph q) }
+    ensures distinct { IsDistinct nat_eq ready.old.items → ((q : ℕ) → Contains ready.old.items q → status graph.old.graph q ≡ Waiting → ⊥) → IsDistinct nat_eq ready.new.items }
+    ensures stores { length names.new.room.bodies ≡ length names.old.room.bodies }
+{
+    match new_task(place, numbers) {
+        None => settle_all(names, graph, asks, task, output, ready),
+        Some(to) => graph.forward(task, to),
+    }
+}
+
+// All memory of a finish: the places for the journal, what the outcome fills, and room for it in the names and among the tasks.
+fn prepare<C: Payload, K: Copy>(
+    alloc: Global,
+    names: &mut Refs<C>,
+    graph: &mut Tasks<K>,
+    w: u32,
+    task: TaskNo,
+    chunks: &[NewChunk<C>],
+) -> Result<(List<Places>, Space), Memory>
+    requires worker { w < workers_of names.old }
+    requires there { IsSome (task_at graph.old.graph task) }
+    ensures names { names.new.names ≡ names.old.names }
+    ensures stores { length names.new.room.bodies ≡ length names.old.room.bodies }
+    ensures graph { graph.new.graph ≡ graph.old.graph }
+    ensures places { IfOk result (λ both. both.0 ≡ each (λ chunk. chunk.children) chunks.now) }
+    ensures space { IfOk result (λ both. HasRoom graph.old.graph task both.1) }
+    ensures bodies { OnOk result (8 ≤ spare_of names.new w) }
+    ensures ids { OnOk result (104 + length (awaiters graph.old.graph task) ≤ names.new.room.ids) }
+    ensures tasks { OnOk result (16 ≤ graph.new.spare) }
+{
+    let places = child_places(alloc, chunks)?;
+    let count = make_finish_room(names, graph, w, task)?;
+    let space = make_space(alloc, graph, task, count)?;
+    Ok((places, space))
+}
+
+// Sorts tasks, each of which is there once.
+fn sort_ready(ready: &mut Vec<TaskNo>)
+    requires { IsDistinct nat_eq ready.old.items }
+    ensures rise { IsStrictlyIncreasing ready.new.items }
+    ensures same { (q : ℕ) → Contains ready.new.items q ↔ Contains ready.old.items q }
+{
+    ready.sort_unstable();
+}
+
+// What an outcome makes of the names, the asks and the unfinished tasks. Answers the tasks that became Ready. It takes no memory.
+fn take_effect<C: Payload, K: Copy>(
+    names: &mut Refs<C>,
+    counter: &mut Counter,
+    graph: &mut Tasks<K>,
+    asks: &mut Asks,
+    w: u32,
+    task: TaskNo,
+    chunks: List<NewChunk<C>>,
+    tasks: &[NewTask<K>],
+    place: Place,
+    space: Space,
+) -> Vec<TaskNo>
+    requires can { (ran : Unfinished AnyRef K) × CanFinish C.arity (control_of counter.old names.old.names asks.old.asks graph.old.graph) w task ran
+        (record { chunks = chunks; tasks = tasks.now; result = place }) }
+    requires caller { (ran : Unfinished AnyRef K) → task_at graph.old.graph task ≡ Some ran → ran.caller < 64 }
+    requires few { counter.old < 2 ^ 97 }
+    requires worker { w < workers_of names.old }
+    requires bodies { 8 ≤ spare_of names.old w }
+    requires ids { 104 + length (awaiters graph.old.graph task) ≤ names.old.room.ids }
+    requires spare { 16 ≤ graph.old.spare }
+    requires space { HasRoom graph.old.graph task space }
+    ensures effect { control_of counter.new names.new.names asks.new.asks graph.new.graph
+        ≡ tidied (after_finish (control_of counter.old names.old.names asks.old.asks graph.old.graph) w task (each (λ chunk. chunk.body) chunks)
+            (each (λ chunk. chunk.children) chunks) tasks.now place (task_at graph.old.graph task)) }
+    ensures ready { AreNewlyReady graph.old.graph graph.new.graph result.items }
+    ensures stores { length names.new.room.bodies ≡ length names.old.room.bodies }
+    ensures callers { length asks.new.rooms ≡ length asks.old.rooms }
+{
+    let Space {
+        inputs,
+        mut made,
+        mut numbers,
+        mut ready,
+    } = space;
+    let caller = graph.caller(task);
+    register_chunks(names, counter, w, task, &inputs, chunks, &mut made);
+    let output = read_place(names, &inputs, &made, place);
+    add_tasks(
+        names,
+        counter,
+        graph,
+        caller,
+        &inputs,
+        &made,
+        tasks,
+        &mut numbers,
+    );
+    list_ready(graph, &numbers, &mut ready);
+    resolve(
+        names, graph, asks, task, place, output, &numbers, &mut ready,
+    );
+    end_task(names, graph, task, &inputs, &made);
+    sort_ready(&mut ready);
+    ready
+}
 
 impl<C: Payload, K: Copy> CoreState<C, K> {
-    /// The outcome of the task that a worker runs takes effect: its chunks are registered on the worker, its new tasks are there, what
-    /// awaited it is settled or handed on, and it goes. Answers the tasks that became Ready, by rising number.
+    /// The outcome of the task that a worker runs takes effect: its chunks are registered, its tasks are there, what awaits the task is
+    /// settled or awaits one of these, and the task goes with what it holds. Answers the tasks that became Ready, by rising number.
+    ///
+    /// It takes all its memory first; after `Memory` all is as before, and the outcome is dropped.
     pub fn finish(&mut self, w: u32, outcome: Outcome<C, K>) -> Result<List<TaskNo>, Memory>
         requires worker { w < self.old.workers }
         requires formed { (task : ℕ) × (ran : Unfinished AnyRef K) × CanFinish C.arity self.old.control w task ran outcome }
@@ -20,7 +302,42 @@ impl<C: Payload, K: Copy> CoreState<C, K> {
         ensures ready { IfOk result (λ ready. AreNewlyReady self.old.control.graph self.new.control.graph ready) }
         ensures unchanged { OnErr result (self.new ≡ self.old) }
     {
-        let _outcome = (w, outcome);
-        Err(Memory)
+        let task = self.running[w as usize].unwrap();
+        let (places, space) = prepare(
+            self.alloc,
+            &mut self.names,
+            &mut self.graph,
+            w,
+            task,
+            outcome.chunks.as_slice(),
+        )?;
+        let _events = self.journal.len();
+        let Outcome {
+            chunks,
+            tasks,
+            result,
+        } = outcome;
+        let ready = take_effect(
+            &mut self.names,
+            &mut self.counter,
+            &mut self.graph,
+            &mut self.asks,
+            w,
+            task,
+            chunks,
+            tasks.as_slice(),
+            result,
+            space,
+        );
+        self.running[w as usize] = None;
+        self.owed -= 1;
+        self.journal.push_reserved(Event::Finish {
+            worker: w,
+            task,
+            chunks: places,
+            tasks,
+            result,
+        });
+        Ok(List::from_vec(ready))
     }
 }

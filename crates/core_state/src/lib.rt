@@ -2,6 +2,7 @@
 //! the events that led there. It knows nothing of what trees stand for.
 #![tactic(auto)]
 
+mod abandoning;
 mod asked;
 mod asks;
 mod finish;

@@ -144,10 +144,11 @@ impl<C: Payload, K: Copy> CoreState<C, K> {
         self.graph.kind(task)
     }
 
-    /// The input of an unfinished task at a place, counted from 0; `None` exactly where the task has no such input.
+    /// The input of an unfinished task at a place, counted from 0; `None` exactly where the task has no such input, as from place 4 on.
     pub fn input(&self, task: TaskNo, place: u32) -> Option<Slot>
         requires { IsSome (task_at self.now.control.graph task) }
-        ensures { option_map input_of result ≡ input_at self.now.control.graph task place }
+        ensures input { option_map input_of result ≡ input_at self.now.control.graph task place }
+        ensures few { IfSome result (λ _. place < 4) }
     {
         self.graph.input(task, place)
     }

@@ -1,3 +1,9 @@
 pub mod Conditions
 pub mod Begin
+pub mod Ending
+pub mod Delivered
+pub mod NewlyReady
+pub mod Registrable
+pub mod Delivered
+pub mod NewTasks
 pub mod NewlyReady

@@ -2,6 +2,16 @@
 //! hands on what is awaited, and ends the task with what it holds.
 #![tactic(auto)]
 
+mod chunks;
+mod ending;
 mod inputs;
+mod reading;
+mod settling;
+mod tasks;
 
+pub use chunks::register_chunks;
+pub use ending::{end_task, list_ready};
 pub use inputs::hold_input;
+pub use reading::read_place;
+pub use settling::{renumbered, settle};
+pub use tasks::add_tasks;

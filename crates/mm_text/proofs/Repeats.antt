@@ -1,16 +1,18 @@
 -- The first repeat in the order of a text is the least line of those that name the place of their neighbour, where the
 -- entries stand in the order of their places and lines.
-use Rattle.std.proofs.Common.{◌≡◌, ◌⊎◌, inl, inr, ℕ, zero, suc, ◌+◌, ◌*◌, ◌^◌, ◌<◌, ◌≤◌, min, Bool, true, false, cond, eqb, List, [], ◌∷◌, ◌++◌, length, get_or, Option, None, Some, IsPermutation, refl, sym, ap, ◌∙◌, subst, arith}
+use Rattle.std.proofs.Common.{◌≡◌, ◌⊎◌, inl, inr, ℕ, zero, suc, ◌+◌, ◌*◌, ◌^◌, ◌%◌, ◌<◌, ◌≤◌, min, Bool, true, false, cond, eqb, ltb, List, [], ◌∷◌, ◌++◌, length, get_or, Option, None, Some, IsPermutation, refl, sym, ap, ◌∙◌, subst, mod-lt, arith}
 use Rattle.std.specs.Prelude.{Contains}
-use Rattle.std.specs.List.{list_any, AllByRecursion, IsDistinct}
+use Rattle.std.specs.List.{filter, list_any, AllByRecursion, IsDistinct}
 use Rattle.std.specs.List.Sorted.{IsNonDecreasingBy}
-use Rattle.std.proofs.lemmas.Bool.{cases_Bool, cond_both, cond-true, cond-false, and_from, or_cases, or_left, or_right, both_ways, true≢false, eqb-true, eqb-false, eq-eqb, lt-ltb, false_from_ne_true}
+use Rattle.std.proofs.lemmas.Bool.{cases_Bool, and_parts, ltb-true, cond_both, cond-true, cond-false, and_from, or_cases, or_left, or_right, both_ways, true≢false, eqb-true, eqb-false, eq-eqb, lt-ltb, false_from_ne_true}
 use Rattle.std.proofs.lemmas.Bool.Decides.{nat_tests}
 use Rattle.std.proofs.lemmas.List.Folds.{list_any-append}
 use Rattle.std.proofs.lemmas.List.Sorted.{Contains-permutation, IsPermutation-sym}
 use Rattle.std.proofs.lemmas.Map.Keys.{IsDistinct-IsPermutation}
+use Rattle.std.proofs.lemmas.Grind.{get_or-set_at}
+use Rattle.std.proofs.lemmas.List.{length-set, get_or-set_other}
 use Rattle.mm_text.specs.declared.places.Listed.{Listed}
-use Rattle.mm_text.specs.Places.{place_of, rise, entries_of, AreListed, repeats, first_repeat, rank_of, sooner, least_repeat}
+use Rattle.mm_text.specs.Places.{place_of, places_of, are_rising, slot_of, with_mark, all_marked, is_shared, rise, entries_of, AreListed, repeats, first_repeat, rank_of, sooner, least_repeat}
 use Rattle.mm_text.proofs.Order.{same_place, other_place}
 
 -- ---- Among a list
@@ -365,3 +367,202 @@ pub least_short : (found : Option ℕ) (xs : List Listed) → length xs < 2 → 
 least_short found [] lt = refl
 least_short found (x ∷ []) lt = refl
 least_short found (x ∷ y ∷ ys) lt = absurd (omega arith)
+
+-- ---- Places that are apart
+
+rising_above : (k n : ℕ) (ns : List ℕ) → k ≤ n → are_rising (n ∷ ns) ≡ true → AllByRecursion (λ m. eqb k m ≡ false) ns
+rising_above k n [] le h = tt
+rising_above k n (m ∷ ns) le h =
+    let p = and_parts (ltb n m) (are_rising (m ∷ ns)) h in
+    let lt = ltb-true n m p.0 in
+    (false_from_ne_true _ (λ same. let e = eqb-true k m same in omega (arith, lt, e, le)), rising_above k m ns (omega (arith, lt, le)) p.1)
+
+rising_distinct : (ns : List ℕ) → are_rising ns ≡ true → IsDistinct eqb ns
+unfolding IsDistinct
+rising_distinct [] h = tt
+rising_distinct (n ∷ []) h = (tt, tt)
+rising_distinct (n ∷ m ∷ ns) h = (rising_above n n (m ∷ ns) (omega arith) h, rising_distinct (m ∷ ns) (and_parts (ltb n m) (are_rising (m ∷ ns)) h).1)
+
+-- none of these names a place that was named before
+abbrev AreNew : List Listed → List Listed → Type 0
+AreNew before = AllByRecursion (λ (x : Listed). list_any (repeats x) before ≡ false)
+
+-- none names the place of one before it
+abbrev AreApart : List Listed → Type 0
+AreApart [] = Unit {0}
+AreApart (x ∷ xs) = AllByRecursion (λ (y : Listed). repeats y x ≡ false) xs × AreApart xs
+
+new_more : (before : List Listed) (z : Listed) (xs : List Listed) → AreNew before xs → AllByRecursion (λ (y : Listed). repeats y z ≡ false) xs → AreNew (before ++ z ∷ []) xs
+new_more before z [] new apart = tt
+new_more before z (x ∷ xs) new apart = (
+  false_from_ne_true _ (λ any. elim (any-less x z before any) [
+    | inl old ↦ both_ways _ new.0 old
+    | inr one ↦ both_ways _ apart.0 one
+  ]),
+  new_more before z xs new.1 apart.1,
+)
+
+apart_from : (before xs : List Listed) → AreNew before xs → AreApart xs → first_repeat before xs ≡ None
+apart_from before [] new apart = refl
+apart_from before (x ∷ xs) new apart =
+    cond-false (list_any (repeats x) before) (Some x.line) (first_repeat (before ++ x ∷ []) xs) new.0
+    ∙ apart_from (before ++ x ∷ []) xs (new_more before x xs new.1 apart.0) apart.1
+
+all_new : (xs : List Listed) → AreNew [] xs
+all_new [] = tt
+all_new (x ∷ xs) = (refl, all_new xs)
+
+-- ---- Entries that share a slot
+
+-- of two entries with one slot both are kept
+abbrev ArePaired : (Listed → ℕ) → (Listed → Bool) → List Listed → Type 0
+ArePaired slot keep [] = Unit {0}
+ArePaired slot keep (x ∷ xs) = AllByRecursion (λ (y : Listed). slot y ≡ slot x → (keep x ≡ true) × (keep y ≡ true)) xs × ArePaired slot keep xs
+
+all_kept : (P : ℕ → Type 0) (keep : Listed → Bool) (xs : List Listed) → AllByRecursion P (places_of (filter keep xs)) → AllByRecursion (λ (y : Listed). keep y ≡ true → P (place_of y.entry)) xs
+all_kept P keep [] all = tt
+all_kept P keep (x ∷ xs) all =
+    elim (cases_Bool (keep x)) [
+      | inl kept ↦
+          let both = subst (λ ys. AllByRecursion P (places_of ys)) (cond-true (keep x) (x ∷ filter keep xs) (filter keep xs) kept) all in
+          (λ _. both.0, all_kept P keep xs both.1)
+      | inr dropped ↦ (
+        λ kept. absurd (both_ways _ dropped kept),
+        all_kept P keep xs (subst (λ ys. AllByRecursion P (places_of ys)) (cond-false (keep x) (x ∷ filter keep xs) (filter keep xs) dropped) all),
+      )
+    ]
+
+module _ (slot : Listed → ℕ) (alike : (x y : Listed) → repeats y x ≡ true → slot y ≡ slot x) (keep : Listed → Bool) where
+  none_repeats : (x : Listed) (xs : List Listed) → AllByRecursion (λ (y : Listed). slot y ≡ slot x → (keep x ≡ true) × (keep y ≡ true)) xs
+      → (keep x ≡ true → AllByRecursion (λ (y : Listed). keep y ≡ true → eqb (place_of x.entry) (place_of y.entry) ≡ false) xs) → AllByRecursion (λ (y : Listed). repeats y x ≡ false) xs
+  none_repeats x [] paired distinct = tt
+  none_repeats x (y ∷ ys) paired distinct = (
+    false_from_ne_true _ (λ same.
+        let kept = paired.0 (alike x y same) in
+        both_ways _ ((distinct kept.0).0 kept.1) (eq-eqb (place_of x.entry) (place_of y.entry) (same_place y.entry x.entry same))),
+    none_repeats x ys paired.1 (λ kept. (distinct kept).1),
+  )
+
+  apart_kept : (xs : List Listed) → ArePaired slot keep xs → IsDistinct eqb (places_of (filter keep xs)) → AreApart xs
+  unfolding IsDistinct
+  apart_kept [] paired distinct = tt
+  apart_kept (x ∷ xs) paired distinct = (
+    none_repeats x xs paired.0 (λ kept.
+        let both = subst (λ ys. IsDistinct eqb (places_of ys)) (cond-true (keep x) (x ∷ filter keep xs) (filter keep xs) kept) distinct in
+        all_kept (λ m. eqb (place_of x.entry) m ≡ false) keep xs both.0),
+    apart_kept xs paired.1 (elim (cases_Bool (keep x)) [
+      | inl kept ↦ (subst (λ ys. IsDistinct eqb (places_of ys)) (cond-true (keep x) (x ∷ filter keep xs) (filter keep xs) kept) distinct).1
+      | inr dropped ↦ subst (λ ys. IsDistinct eqb (places_of ys)) (cond-false (keep x) (x ∷ filter keep xs) (filter keep xs) dropped) distinct
+    ]),
+  )
+
+-- ---- Marks
+
+with_mark_length : (marks : List ℕ) (i : ℕ) → length (with_mark marks i) ≡ length marks
+with_mark_length marks i = length-set marks i (min 2 (get_or marks i 0 + 1))
+
+-- the mark at a slot does not fall, and is 2 where it is marked again
+marks_rise : (marks : List ℕ) (i j : ℕ) → i < length marks → get_or marks j 0 ≤ 2 → get_or marks j 0 ≤ get_or (with_mark marks i) j 0
+marks_rise marks i j within few =
+    elim (cases_Bool (eqb j i)) [
+      | inl same ↦ (let here = get_or-set_at marks i j (min 2 (get_or marks i 0 + 1)) 0 (eqb-true j i same) within in let e = ap (λ k. get_or marks k 0) (eqb-true j i same) in omega (arith, here, e, few))
+      | inr other ↦ (let there = get_or-set_other marks i j (min 2 (get_or marks i 0 + 1)) 0 (eqb-false j i other) in omega (arith, there))
+    ]
+
+mark_again : (marks : List ℕ) (i : ℕ) → i < length marks → 1 ≤ get_or marks i 0 → get_or (with_mark marks i) i 0 ≡ 2
+mark_again marks i within once = let here = get_or-set_at marks i i (min 2 (get_or marks i 0 + 1)) 0 refl within in omega (arith, here, once)
+
+mark_once : (marks : List ℕ) (i : ℕ) → i < length marks → 1 ≤ get_or (with_mark marks i) i 0
+mark_once marks i within = let here = get_or-set_at marks i i (min 2 (get_or marks i 0 + 1)) 0 refl within in omega (arith, here)
+
+mark_most : (marks : List ℕ) (i j : ℕ) → i < length marks → get_or marks j 0 ≤ 2 → get_or (with_mark marks i) j 0 ≤ 2
+mark_most marks i j within few =
+    elim (cases_Bool (eqb j i)) [
+      | inl same ↦ (let here = get_or-set_at marks i j (min 2 (get_or marks i 0 + 1)) 0 (eqb-true j i same) within in omega (arith, here))
+      | inr other ↦ (let there = get_or-set_other marks i j (min 2 (get_or marks i 0 + 1)) 0 (eqb-false j i other) in omega (arith, there, few))
+    ]
+
+module _ (slot : Listed → ℕ) (slots : ℕ) (within : (x : Listed) → slot x < slots) where
+  inside : (marks : List ℕ) (x : Listed) → length marks ≡ slots → slot x < length marks
+  inside marks x long = let low = within x in omega (arith, low, long)
+
+  longer : (marks : List ℕ) (x : Listed) → length marks ≡ slots → length (with_mark marks (slot x)) ≡ slots
+  longer marks x long = with_mark_length marks (slot x) ∙ long
+
+  still_two : (marks : List ℕ) (xs : List Listed) (i : ℕ) → length marks ≡ slots → get_or marks i 0 ≡ 2 → get_or (all_marked slot marks xs) i 0 ≡ 2
+  still_two marks [] i long two = two
+  still_two marks (x ∷ xs) i long two =
+      still_two (with_mark marks (slot x)) xs i (longer marks x long)
+      (let up = marks_rise marks (slot x) i (inside marks x long) (omega (arith, two)) in
+      let most = mark_most marks (slot x) i (inside marks x long) (omega (arith, two)) in
+      omega (arith, up, most, two))
+
+  marked_again : (marks : List ℕ) (xs : List Listed) (i : ℕ) → length marks ≡ slots → 1 ≤ get_or marks i 0 → get_or marks i 0 ≤ 2
+      → AllByRecursion (λ (y : Listed). slot y ≡ i → get_or (all_marked slot marks xs) i 0 ≡ 2) xs
+  marked_again marks [] i long once most = tt
+  marked_again marks (x ∷ xs) i long once most = (
+    λ same.
+        still_two (with_mark marks (slot x)) xs i (longer marks x long)
+        (subst (λ j. get_or (with_mark marks (slot x)) j 0 ≡ 2) same (mark_again marks (slot x) (inside marks x long) (subst (λ j. 1 ≤ get_or marks j 0) (sym same) once))),
+    marked_again (with_mark marks (slot x)) xs i (longer marks x long)
+        (let up = marks_rise marks (slot x) i (inside marks x long) most in omega (arith, up, once)) (mark_most marks (slot x) i (inside marks x long) most),
+  )
+
+  pair_here : (marks : List ℕ) (x : Listed) (xs : List Listed) → AllByRecursion (λ (y : Listed). slot y ≡ slot x → get_or marks (slot x) 0 ≡ 2) xs
+      → AllByRecursion (λ (y : Listed). slot y ≡ slot x → (is_shared slot marks x ≡ true) × (is_shared slot marks y ≡ true)) xs
+  pair_here marks x [] two = tt
+  pair_here marks x (y ∷ ys) two =
+      (λ same. (eq-eqb (get_or marks (slot x) 0) 2 (two.0 same), eq-eqb (get_or marks (slot y) 0) 2 (ap (λ i. get_or marks i 0) same ∙ two.0 same)), pair_here marks x ys two.1)
+
+  all_paired : (marks : List ℕ) (xs : List Listed) → length marks ≡ slots → ((i : ℕ) → get_or marks i 0 ≤ 2) → ArePaired slot (is_shared slot (all_marked slot marks xs)) xs
+  all_paired marks [] long low = tt
+  all_paired marks (x ∷ xs) long low =
+      let next = with_mark marks (slot x) in (
+        pair_here (all_marked slot next xs) x xs
+            (marked_again next xs (slot x) (longer marks x long) (mark_once marks (slot x) (inside marks x long)) (mark_most marks (slot x) (slot x) (inside marks x long) (low (slot x)))),
+        all_paired next xs (longer marks x long) (λ i. mark_most marks (slot x) i (inside marks x long) (low i)),
+      )
+
+slot_alike : (slots width : ℕ) (x y : Listed) → repeats y x ≡ true → slot_of slots width y ≡ slot_of slots width x
+slot_alike slots width x y same =
+    let p = and_parts (eqb x.entry.row y.entry.row) (eqb x.entry.column y.entry.column) same in
+    let row : x.entry.row ≡ y.entry.row = eqb-true x.entry.row y.entry.row p.0 in
+    let column : x.entry.column ≡ y.entry.column = eqb-true x.entry.column y.entry.column p.1 in
+    λ i. (sym row i * width + sym column i) % slots
+
+-- where the places of those that share a slot rise in order, no entry names the place of one before it
+pub apart_sorted : (slots width : ℕ) (first : List ℕ) (xs : List Listed) (ns : List ℕ) → ((x : Listed) → slot_of slots width x < slots) → length first ≡ slots → ((i : ℕ) → get_or first i 0 ≤ 2)
+    → IsPermutation (places_of (filter (is_shared (slot_of slots width) (all_marked (slot_of slots width) first xs)) xs)) ns → are_rising ns ≡ true → first_repeat [] xs ≡ None
+apart_sorted slots width first xs ns within long low p rises =
+    let slot = slot_of slots width in
+    let keep = is_shared slot (all_marked slot first xs) in
+    apart_from [] xs (all_new xs)
+    (apart_kept slot (slot_alike slots width) keep xs (all_paired slot slots within first xs long low)
+    (IsDistinct-IsPermutation eqb eqb_flips ns (places_of (filter keep xs)) (IsPermutation-sym (places_of (filter keep xs)) ns p) (rising_distinct ns rises)))
+
+none_shared : (slot : Listed → ℕ) (marks : List ℕ) (xs : List Listed) → ((i : ℕ) → get_or marks i 0 ≤ 1) → filter (is_shared slot marks) xs ≡ []
+none_shared slot marks [] once = refl
+none_shared slot marks (x ∷ xs) once =
+    cond-false (is_shared slot marks x) (x ∷ filter (is_shared slot marks) xs) (filter (is_shared slot marks) xs)
+    (false_from_ne_true _ (λ two. let e = eqb-true (get_or marks (slot x) 0) 2 two in let low = once (slot x) in omega (arith, e, low)))
+    ∙ none_shared slot marks xs once
+
+-- where no slot was marked twice, no entry names the place of one before it
+pub apart_once : (slots width : ℕ) (first : List ℕ) (xs : List Listed) → ((x : Listed) → slot_of slots width x < slots) → length first ≡ slots → ((i : ℕ) → get_or first i 0 ≤ 2)
+    → ((i : ℕ) → get_or (all_marked (slot_of slots width) first xs) i 0 ≤ 1) → first_repeat [] xs ≡ None
+unfolding IsDistinct
+apart_once slots width first xs within long low once =
+    let slot = slot_of slots width in
+    let keep = is_shared slot (all_marked slot first xs) in
+    apart_from [] xs (all_new xs)
+    (apart_kept slot (slot_alike slots width) keep xs (all_paired slot slots within first xs long low)
+    (subst (λ ys. IsDistinct eqb (places_of ys)) (sym (none_shared slot (all_marked slot first xs) xs once)) tt))
+
+-- fewer than two numbers rise
+pub rising_short : (ns : List ℕ) → length ns < 2 → are_rising ns ≡ true
+rising_short [] lt = refl
+rising_short (n ∷ []) lt = refl
+rising_short (n ∷ m ∷ ns) lt = absurd (omega arith)
+
+pub slot_within : (slots width : ℕ) (x : Listed) → 0 < slots → slot_of slots width x < slots
+slot_within slots width x some = mod-lt (x.entry.row * width + x.entry.column) some

@@ -13,7 +13,7 @@ use Rattle.mm_text.specs.Lines.{cut_lines, onto_line, lines_of, without_return}
 use Rattle.mm_text.specs.Faults.{or_else, first_fault, numbered}
 use Rattle.mm_text.specs.Block.{Sizes, Block, is_empty_line, is_above, entry_of, fault_at, unless, at_line, entry_code, entry_fault, last_number, block_of, block_in, matrix_of}
 use Rattle.mm_text.specs.Cells.{cells_listed, entry_cells}
-use Rattle.mm_text.specs.Places.{entries_of, AreListed, repeats, first_repeat, rise, is_number}
+use Rattle.mm_text.specs.Places.{fault_before, entries_of, AreListed, repeats, first_repeat, rise, is_number}
 use Rattle.mm_text.specs.Steps.{IsHead, lines_behind, filled, line_after, told, Found, with_first, gathered, gathered_at, last_line, judged}
 use Rattle.mm_text.proofs.Told.{Stands, stands-none, stands-more, told-Ok, code-entry, code-fault, told-inside}
 use Rattle.mm_text.proofs.Order.{apart-IsPermutation, apart_rise}
@@ -189,6 +189,11 @@ pub stop_told : (grid : ℕ) (lines : List (List ℕ)) (form : Form) (sizes : Si
 stop_told grid lines form sizes n rest listed fault head found repeat =
     block_judged grid lines form sizes n rest listed (Some fault) head found
     ∙ ap (λ o. judged o (Some fault) (block_of form sizes n (take sizes.entries (filled (lines_behind n rest))))) repeat
+
+pub before_told : (grid : ℕ) (lines : List (List ℕ)) (form : Form) (sizes : Sizes) (n : ℕ) (rest : List ℕ) (listed : List Listed) (stop : MarketFault) (repeat : Option ℕ)
+    → IsHead grid lines form sizes n rest → gathered_at form sizes sizes.entries n rest ≡ (listed, Some stop) → first_repeat [] listed ≡ repeat → block_in grid lines ≡ Err (fault_before stop repeat)
+before_told grid lines form sizes n rest listed stop None head found none = stop_told grid lines form sizes n rest listed stop head found none
+before_told grid lines form sizes n rest listed stop (Some line) head found repeat = repeat_told grid lines form sizes n rest listed (Some stop) line head found repeat
 
 -- the block of entries
 abbrev pub Listing : Form → Sizes → ℕ → List Listed → Block

@@ -1,9 +1,10 @@
 -- The places of entries, in their order: row by row, and within a row by rising column.
-use Rattle.std.specs.Prelude.{ℕ, ◌+◌, ◌*◌, ◌^◌, ◌<◌, min, Bool, true, ◌&&◌, ◌==◌, not, nat_lt, if◌then◌else◌, List, [], ◌∷◌, ◌++◌, map, Option, None, Some}
+use Rattle.std.specs.Prelude.{ℕ, ◌+◌, ◌*◌, ◌^◌, ◌%◌, ◌<◌, min, get_or, slice_set, Bool, true, ◌&&◌, ◌==◌, not, nat_lt, if◌then◌else◌, List, [], ◌∷◌, ◌++◌, map, Option, None, Some}
 use Rattle.std.specs.List.{list_any}
 use Rattle.mm_text.specs.declared.market.Entry.{Entry}
 use Rattle.mm_text.specs.declared.places.Listed.{Listed}
-use Rattle.mm_text.specs.Block.{names}
+use Rattle.mm_text.specs.declared.market.MarketFault.{MarketFault}
+use Rattle.mm_text.specs.Block.{names, fault_at}
 use Rattle.mm_text.specs.Cells.{is_zero}
 
 -- the place of an entry as one number
@@ -25,6 +26,33 @@ rise (e ∷ f ∷ entries) = nat_lt (place_of e) (place_of f) && rise (f ∷ ent
 abbrev pub entries_of : List Listed → List Entry
 entries_of listed = map (λ (one : Listed). one.entry) listed
 
+-- the places of entries
+abbrev pub places_of : List Listed → List ℕ
+places_of listed = map (λ (one : Listed). place_of one.entry) listed
+
+-- the slot of an entry in a table of so many slots; entries of one place have one slot
+abbrev pub slot_of : ℕ → ℕ → Listed → ℕ
+slot_of slots width one = (one.entry.row * width + one.entry.column) % slots
+
+-- a table in which one more entry is marked at its slot: 1 for the first, and 2 from the second on
+abbrev pub with_mark : List ℕ → ℕ → List ℕ
+with_mark marks slot = slice_set marks slot (min 2 (get_or marks slot 0 + 1))
+
+-- a table in which these entries are marked, each at its slot
+abbrev pub all_marked : (Listed → ℕ) → List ℕ → List Listed → List ℕ
+all_marked slot marks [] = marks
+all_marked slot marks (one ∷ ones) = all_marked slot (with_mark marks (slot one)) ones
+
+-- whether another entry was marked at the slot of this one
+abbrev pub is_shared : (Listed → ℕ) → List ℕ → Listed → Bool
+is_shared slot marks one = get_or marks (slot one) 0 == 2
+
+-- whether each number is greater than the one before
+abbrev pub are_rising : List ℕ → Bool
+are_rising [] = true
+are_rising (n ∷ []) = true
+are_rising (n ∷ m ∷ numbers) = nat_lt n m && are_rising (m ∷ numbers)
+
 -- Entries as a text lists them: the numbers of their lines rise and are greater than n. Columns have 32 bits, and lines 64.
 abbrev pub AreListed : ℕ → List Listed → Type 0
 AreListed n [] = Unit {0}
@@ -38,6 +66,11 @@ repeats one earlier = names one.entry.row one.entry.column earlier.entry
 abbrev pub first_repeat : List Listed → List Listed → Option ℕ
 first_repeat before [] = None
 first_repeat before (one ∷ ones) = if list_any (repeats one) before then Some one.line else first_repeat (before ++ one ∷ []) ones
+
+-- the fault of a block whose entries end before a line with a fault of its own: a repeat among them, else that one
+abbrev pub fault_before : MarketFault → Option ℕ → MarketFault
+fault_before stop None = stop
+fault_before stop (Some line) = fault_at line 11
 
 -- the place and the line as one number
 abbrev pub rank_of : Listed → ℕ

@@ -1,13 +1,50 @@
-ghost use Rattle.std.specs.Prelude.{IfOk, IfErr};
+ghost use Rattle.std.specs.Prelude.{◌≡◌, [], IfOk, IfErr};
+ghost use Rattle.mm_text.specs.declared.market.MarketRefused.TheVariants as refusals;
+ghost use Rattle.mm_text.specs.Block.{fault_at};
+ghost use Rattle.mm_text.specs.Places.{AreListed, first_repeat, fault_before};
 ghost use Rattle.mm_text.specs.Reading.{IsBlockRead, IsBlockRefused, IsPlaced};
 
 use crate::codes::REPEATED;
 use crate::entries::{Gathered, read_entries};
 use crate::head::read_head;
 use crate::market::{Market, MarketFault, MarketRead, MarketRefused};
-use crate::places::{numbers, sort_by_place};
+use crate::places::{Listed, are_apart, numbers, sort_by_place};
+use crate::sizes::SizeLine;
 use cht_ids::List;
 use std::alloc::Global;
+
+// The fault of a line that names a place twice.
+fn repeated(line: u64) -> MarketFault
+    ensures { result ≡ fault_at line 11 }
+{
+    MarketFault {
+        line,
+        code: REPEATED,
+    }
+}
+
+// The first fault of a block, of which these entries were read before a line that breaks a rule on its own: the first repeat among
+// them, else that one. Where no place is named twice, which is most often so, the places alone are sorted.
+fn first_fault(
+    alloc: Global,
+    sizes: SizeLine,
+    listed: Vec<Listed>,
+    stop: MarketFault,
+) -> Result<MarketFault, MarketRefused>
+    requires { AreListed 0 listed.items }
+    ensures fault { IfOk result (λ fault. fault ≡ fault_before stop (first_repeat [] listed.items)) }
+    ensures memory { IfErr result (λ refused. refused ≡ refusals.Memory) }
+{
+    let apart = are_apart(alloc, &listed, sizes.rows, sizes.columns)?;
+    if apart {
+        return Ok(stop);
+    }
+    let mut listed = listed;
+    match sort_by_place(&mut listed) {
+        Some(line) => Ok(repeated(line)),
+        None => Ok(stop),
+    }
+}
 
 /// Reads the block at the front of the bytes: a banner in any ASCII case, the line `rows columns entries`, and that many
 /// lines `row column value`. A line feed ends each line, or a carriage return and a line feed; the last line may end
@@ -31,14 +68,12 @@ pub fn read_market(alloc: Global, bytes: &[u8], grid: u32) -> Result<MarketRead,
         stop,
         end,
     } = read_entries(alloc, head.form, head.sizes, head.behind)?;
-    if let Some(line) = sort_by_place(&mut listed) {
-        return Err(MarketRefused::Fault(MarketFault {
-            line,
-            code: REPEATED,
-        }));
-    }
     if let Some(fault) = stop {
-        return Err(MarketRefused::Fault(fault));
+        let first = first_fault(alloc, head.sizes, listed, fault)?;
+        return Err(MarketRefused::Fault(first));
+    }
+    if let Some(line) = sort_by_place(&mut listed) {
+        return Err(MarketRefused::Fault(repeated(line)));
     }
     let entries = numbers(alloc, &listed)?;
     Ok(MarketRead {

@@ -70,6 +70,17 @@ module _ {K : Type 0} (parts : Parts K) (whole : IsWhole parts) where
   pub ceiling_first : (c after : ℕ) (row : Caller) → caller_at parts.callers c ≡ Some row → IsCeiling (graph_of parts) c after row.first
   ceiling_first c after row is = ceiling_from c after row.first (whole.ordered.firsts c (bounds_of row) (ap (option_map bounds_of) is))
 
+  least_from : (c : ℕ) (first : Option ℕ) → Leads (row_at (station_at (entries_at parts.entries))) c None first → IsLeastOf (λ n. caller_of (graph_of parts) n ≡ Some c) first
+  least_from c None leads = λ n of. leads n n (row_of n c of) tt
+  least_from c (Some m) leads =
+      let of = of_row m c leads.0 leads.1 in
+      let key = of.1 in
+      (of.0, λ n is. let least = leads.3 n n (row_of n c is) tt in omega arith)
+
+  -- the first is the least
+  pub first_least : (c : ℕ) (row : Caller) → caller_at parts.callers c ≡ Some row → IsLeastOf (λ n. caller_of (graph_of parts) n ≡ Some c) row.first
+  first_least c row is = least_from c row.first (whole.ordered.firsts c (bounds_of row) (ap (option_map bounds_of) is))
+
   ceiling_step : (c after at : ℕ) (next : Option ℕ) → Leads (row_at (station_at (entries_at parts.entries))) c (Some at) next → IsCeiling (graph_of parts) c after (Some at) → at ≤ after → IsCeiling (graph_of parts) c after next
   ceiling_step c after at None leads ceiling low = λ n of. elim (cases_lt at n) [
     | inl more ↦ absurd (leads n n (row_of n c of) more)

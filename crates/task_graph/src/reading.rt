@@ -1,5 +1,5 @@
 // What is read of tasks.
-ghost use Rattle.std.specs.Prelude.{◌≡◌, ◌<◌, ◌≤◌, ◌↔◌, ℕ, take, length, slice_get, option_map, Some, None, IsSome, IsTrue};
+ghost use Rattle.std.specs.Prelude.{◌≡◌, ◌<◌, ◌≤◌, ◌↔◌, ℕ, take, length, slice_get, option_map, Some, None, IsSome, IfSome, IsTrue};
 ghost use Rattle.task_states.specs.Awaiters.{IsLeastOf, IsLater, IsWanted};
 ghost use Rattle.task_states.specs.States.{caller_of};
 ghost use Rattle.task_graph.specs.Inside.{inputs_of, shown_place};
@@ -29,7 +29,8 @@ impl<K: Copy> Entry<K> {
     /// The input at a place, counted from 0, if there is one.
     pub fn input(&self, place: u32) -> Option<Slot>
         requires { self.now.count ≤ 4 }
-        ensures { option_map input_of result ≡ option_map shown_place (slice_get (inputs_of self.now) place) }
+        ensures input { option_map input_of result ≡ option_map shown_place (slice_get (inputs_of self.now) place) }
+        ensures few { IfSome result (λ _. place < 4) }
     {
         if place < self.count {
             Some(self.places[place as usize].slot())

@@ -207,13 +207,23 @@ impl<K: Copy> Tasks<K> {
         entry.kind
     }
 
-    /// The input of a task at a place, counted from 0; `None` exactly where the task has no such input.
+    /// The input of a task at a place, counted from 0; `None` exactly where the task has no such input, as from place 4 on.
     pub fn input(&self, task: TaskNo, place: u32) -> Option<Slot>
         requires { IsSome (task_at self.now.graph task) }
-        ensures { option_map input_of result ≡ input_at self.now.graph task place }
+        ensures input { option_map input_of result ≡ input_at self.now.graph task place }
+        ensures few { IfSome result (λ _. place < 4) }
     {
         let entry = self.held.parts.entries.get(task);
         entry.input(place)
+    }
+
+    /// The least unfinished task of a caller; `None` exactly where it has none. It is found at once.
+    pub fn first_of(&self, caller: u32) -> Option<TaskNo>
+        requires { caller < 64 }
+        ensures { IsLeastOf (λ task. caller_of self.now.graph task ≡ Some caller) result }
+    {
+        let row = self.held.parts.callers.get(caller);
+        row.first
     }
 
     /// The least unfinished task of a caller with a greater number; `None` exactly where there is none. It is found at once

@@ -12,7 +12,7 @@ get-entry-requires g c = entry_of c.self.inside.held.parts c.args.task (subst (�
 pub input-requires : goal.input-requires
 input-requires g c = c.self.invariant.whole.short c.args.task c.get-entry.result c.get-entry.ensures
 
-pub returns : goal.returns
-returns g c =
+pub returns-clause-input : goal.returns-clause-input
+returns-clause-input g c =
     subst (λ (v : Contents g.row.K.Denot). option_map input_of c.input.result ≡ input_at v.graph c.args.task c.args.place) c.self.view_is
-    (c.input.ensures ∙ input_there c.self.inside.held.parts c.args.task c.get-entry.result c.args.place c.get-entry.ensures)
+    (c.input.ensures.input ∙ input_there c.self.inside.held.parts c.args.task c.get-entry.result c.args.place c.get-entry.ensures)
