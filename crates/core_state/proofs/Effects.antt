@@ -1,5 +1,5 @@
 -- What the outcome of a task leaves, stage by stage.
-use Rattle.std.proofs.Common.{◌≡◌, ◌↔◌, ℕ, ◌+◌, ◌*◌, ◌<◌, ◌≤◌, ◌⊎◌, inl, inr, List, [], ◌∷◌, ◌++◌, map as each, length, Option, None, Some, refl, sym, ap, subst, ◌∙◌, arith, nat_cmp, nat_eq}
+use Rattle.std.proofs.Common.{◌≡◌, ◌↔◌, ℕ, ◌+◌, ◌≤◌, ◌⊎◌, List, [], ◌++◌, map as each, length, Some, refl, sym, ap, subst, ◌∙◌, arith, nat_cmp, nat_eq}
 use Rattle.std.specs.List.{Contains, IsDistinct, filter}
 use Rattle.std.specs.List.Sorted.{IsStrictlyIncreasing}
 use Rattle.std.specs.FinMap as map
@@ -17,15 +17,15 @@ use Rattle.task_states.specs.declared.states.TaskStatus.TheVariants.{Ready, Wait
 use Rattle.name_states.proofs.Basics.{same_some}
 use Rattle.std.specs.Option.{option_map}
 use Rattle.task_states.specs.States.{Input, Unfinished, Graph, task_at, caller_of, status}
-use Rattle.task_states.specs.Steps.{settled, redirected, all_delivered, forwarded, removed}
+use Rattle.task_states.specs.Steps.{settled, redirected, forwarded, removed}
 use Rattle.task_states.specs.Listing.{awaiters}
 use Rattle.name_machine.specs.States.{Ask}
 use Rattle.name_machine.specs.NewTasks.{drawn_by_tasks, task_numbers, number_at, with_tasks}
-use Rattle.name_machine.specs.Control.{Control, Grown, ref_known, is_held_by, without_ids, with_number, ref_named, task_copies, resolved_to, without_task, tidied, finish_event, after_finish}
+use Rattle.name_machine.specs.Control.{Control, Grown, is_held_by, without_ids, with_number, ref_named, task_copies, resolved_to, without_task, tidied, after_finish}
 use Rattle.core_steps.specs.Begin.{CanFinish}
 use Rattle.core_steps.specs.Conditions.{bodies_of, presences}
 use Rattle.core_steps.specs.Delivered.{AreSetApart, IsNowReady}
-use Rattle.core_steps.specs.Ending.{HoldsExactly, is_ready_in}
+use Rattle.core_steps.specs.Ending.{is_ready_in}
 use Rattle.core_steps.specs.NewlyReady.{AreNewlyReady}
 use Rattle.core_steps.specs.Registrable.{grown_so_far, all_grown}
 use Rattle.core_steps.proofs.ReadyForTasks.{has_its_tasks}

@@ -1,8 +1,8 @@
 -- What hangs together once the outcome of a task took effect.
-use Rattle.std.proofs.Common.{◌≡◌, ℕ, zero, suc, ◌+◌, ◌*◌, ◌<◌, ◌≤◌, ◌⊎◌, inl, inr, Bool, true, false, cond, nat_eq, List, [], ◌∷◌, ◌++◌, map as each, length, take, get_or, slice_set, count_by, Option, None, Some, is_some, refl, sym, ap, subst, ◌∙◌, arith, nat_cmp}
+use Rattle.std.proofs.Common.{◌≡◌, ℕ, zero, suc, ◌+◌, ◌*◌, ◌<◌, ◌≤◌, ◌⊎◌, inl, inr, Bool, true, false, cond, nat_eq, List, [], ◌∷◌, ◌++◌, map as each, length, take, get_or, slice_set, Option, None, Some, refl, sym, ap, subst, ◌∙◌, arith, nat_cmp}
 use Rattle.std.specs.Prelude.{slice_get}
 use Rattle.std.specs.Option.{option_map}
-use Rattle.std.specs.List.{list_any, flat_map}
+use Rattle.std.specs.List.{flat_map}
 use Rattle.std.specs.FinMap as map
 use Rattle.std.specs.FinSet as sets
 use Rattle.std.proofs.Math.ListN.{length-set}
@@ -15,43 +15,40 @@ use Rattle.task_types.specs.declared.outcome.Places.{Places}
 use Rattle.task_types.specs.declared.outcome.NewChunk.{NewChunk}
 use Rattle.task_types.specs.declared.outcome.NewTask.{NewTask}
 use Rattle.task_types.specs.declared.outcome.Outcome.{Outcome}
-use Rattle.task_types.specs.Formed.{AreFormedTasks, IsFormedChunk}
 use Rattle.task_types.specs.Places.{places_of}
 use Rattle.name_states.specs.declared.holder.Holder.{Holder}
-use Rattle.name_states.specs.declared.holder.Holder.TheVariants.{Caller as ByCaller, Task as ByTask}
+use Rattle.name_states.specs.declared.holder.Holder.TheVariants.{Task as ByTask}
 use Rattle.name_states.specs.States.{NameState}
 use Rattle.name_states.specs.Reached.{swept}
 use Rattle.name_states.proofs.Basics.{none_not_some, same_some, same_or_not, test_same, test_apart, inserted_here, inserted_other, removed_from, removed_other}
 use Rattle.name_states.proofs.Swept.{id-left}
 use Rattle.task_states.specs.Maps.{each_changed}
 use Rattle.task_states.specs.States.{Input, Known, Awaits, Unfinished, Graph, task_at, asked_of, is_stopped}
-use Rattle.task_states.specs.Steps.{added, forwarded, removed}
+use Rattle.task_states.specs.Steps.{added, removed}
 use Rattle.task_states.proofs.Maps.{same_maps, get-each_changed}
 use Rattle.cht_history.specs.History.{History}
 use Rattle.cht_history.specs.declared.event.Event.{Event}
-use Rattle.cht_history.specs.declared.event.Event.TheVariants.{Finish}
 use Rattle.chunk_refs.specs.Room.{Contents as Names}
 use Rattle.chunk_refs.proofs.Stores.{get-set_here, get-set_other}
 use Rattle.name_machine.specs.States.{Ask, is_of, has_ask}
-use Rattle.name_machine.specs.NewTasks.{drawn_for, taken, drawn_by_chunks, drawn_by_tasks, task_numbers, number_at, new_inputs, with_tasks}
+use Rattle.name_machine.specs.NewTasks.{taken, drawn_by_chunks, drawn_by_tasks, new_inputs, with_tasks}
 use Rattle.name_machine.specs.Control.{Control, Grown, ref_known, is_held_by, with_number, number_awaiting, number_asked, numbers_awaiting, asked_numbers, awaiting, answered_with, copy_of, copies_of, without_ids, ref_named, chunk_more, chunks_more, input_copies, task_copies, resolved_to, without_task, tidied, after_finish}
 use Rattle.name_machine.specs.Replay.{is_run_by}
 use Rattle.name_machine.proofs.Values.{any_from, any_to}
 use Rattle.name_machine.proofs.Tasks.{mapped_from}
 use Rattle.name_machine.proofs.Fewer.{left_at}
-use Rattle.name_machine.proofs.Added.{IsNew, old_stays, new_from}
+use Rattle.name_machine.proofs.Added.{old_stays, new_from}
 use Rattle.name_machine.proofs.FinishChunks.{chunks_draw}
 use Rattle.core_steps.specs.Begin.{CanFinish}
 use Rattle.core_steps.specs.Conditions.{bodies_of, finish_of}
 use Rattle.core_steps.proofs.Awaited as awaited
 use Rattle.core_steps.proofs.Course as course
-use Rattle.core_steps.proofs.Handed.{IsHanded}
 use Rattle.core_steps.proofs.Resolved.{unanswered}
 use Rattle.core_state.specs.AskTable.{AskTable}
 use Rattle.core_state.specs.Contents.{after_event}
 use Rattle.core_state.specs.Effect.{control_of}
 use Rattle.core_state.specs.Inside.{contents_of, AreRun, IsKept}
-use Rattle.core_state.specs.Needed.{due_for_holder, due_for_id, due_for_output, due_for_ask, due_for_caller, total_by, total_below, needed}
+use Rattle.core_state.specs.Needed.{due_for_holder, due_for_id, due_for_output, due_for_ask, due_for_caller, total_by, total_below}
 use Rattle.core_state.proofs.Totals.{total_less, total_replaced, below_same}
 use Rattle.core_state.proofs.Needs.{due_copied, due_registered, more_events}
 use Rattle.core_state.proofs.Effects as effects
@@ -335,8 +332,7 @@ module _ {C K : Type 0} (arity : C → ℕ) (control : Control C (Unit {0}) K) (
       let now = handed.other q u.0 was.0 u.1 in
       let same : v ≡ now.0 = same_some v now.0 (sym was.1 ∙ now.1) in
       let caller : v.caller ≡ u.0.caller = ap (λ (t : Unfinished Ref K). t.caller) same ∙ now.3 in
-      let runner : v.runner ≡ u.0.runner = ap (λ (t : Unfinished Ref K). t.runner) same ∙ now.4 in
-      (
+      let runner : v.runner ≡ u.0.runner = ap (λ (t : Unfinished Ref K). t.runner) same ∙ now.4 in (
         was.0,
         elim (new_from value numbers ran.caller grown.drawn outcome.tasks control.graph q u.0 u.1) [
           | inl old ↦ inl (u.0, old, caller, runner)

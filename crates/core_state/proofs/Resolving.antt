@@ -1,5 +1,5 @@
 -- How the output of a finished task is handed on.
-use Rattle.std.proofs.Common.{◌≡◌, ◌↔◌, ℕ, zero, suc, ◌<◌, ◌⊎◌, inl, inr, List, [], ◌∷◌, get_or, Option, None, Some, refl, sym, ap, ◌∙◌, arith, nat_cmp, nat_eq}
+use Rattle.std.proofs.Common.{◌≡◌, ◌↔◌, ℕ, ◌⊎◌, inl, inr, List, get_or, Option, None, Some, refl, sym, ap, ◌∙◌, nat_cmp, nat_eq}
 use Rattle.std.specs.List.{Contains}
 use Rattle.std.specs.FinMap as map
 use Rattle.cht_ids.specs.declared.refs.Ref.{Ref}

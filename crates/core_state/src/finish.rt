@@ -28,7 +28,9 @@ use crate::state::CoreState;
 use cht_history::Event;
 use cht_ids::{Counter, List, Memory, Ref, TaskNo};
 use chunk_refs::Refs;
-use core_steps::{add_tasks, end_task, list_ready, read_place, register_chunks, renumbered, settle};
+use core_steps::{
+    add_tasks, end_task, list_ready, read_place, register_chunks, renumbered, settle,
+};
 use std::alloc::Global;
 use task_graph::Tasks;
 use task_states::Slot;
@@ -69,10 +71,7 @@ fn read_inputs<K: Copy>(alloc: Global, graph: &Tasks<K>, task: TaskNo) -> Result
 }
 
 // The places of the children of each new chunk.
-fn child_places<C: Payload>(
-    alloc: Global,
-    chunks: &[NewChunk<C>],
-) -> Result<List<Places>, Memory>
+fn child_places<C: Payload>(alloc: Global, chunks: &[NewChunk<C>]) -> Result<List<Places>, Memory>
     ensures { IfOk result (λ places. places ≡ each (λ chunk. chunk.children) chunks.now) }
 {
     let mut places = Vec::new(alloc);
@@ -109,7 +108,12 @@ fn make_finish_room<C: Payload, K: Copy>(
 }
 
 // What an outcome fills, with room for all of it.
-fn make_space<K: Copy>(alloc: Global, graph: &Tasks<K>, task: TaskNo, count: u32) -> Result<Space, Memory>
+fn make_space<K: Copy>(
+    alloc: Global,
+    graph: &Tasks<K>,
+    task: TaskNo,
+    count: u32,
+) -> Result<Space, Memory>
     requires there { IsSome (task_at graph.now.graph task) }
     requires count { count ≡ length (awaiters graph.now.graph task) }
     requires few { count < 2 ^ 31 }
@@ -257,7 +261,7 @@ fn take_effect<C: Payload, K: Copy>(
     requires space { HasRoom graph.old.graph task space }
     ensures effect { control_of counter.new names.new.names asks.new.asks graph.new.graph
         ≡ tidied (after_finish (control_of counter.old names.old.names asks.old.asks graph.old.graph) w task (each (λ chunk. chunk.body) chunks)
-            (each (λ chunk. chunk.children) chunks) tasks.now place (task_at graph.old.graph task)) }
+        (each (λ chunk. chunk.children) chunks) tasks.now place (task_at graph.old.graph task)) }
     ensures ready { AreNewlyReady graph.old.graph graph.new.graph result.items }
     ensures stores { length names.new.room.bodies ≡ length names.old.room.bodies }
     ensures callers { length asks.new.rooms ≡ length asks.old.rooms }

@@ -8,7 +8,6 @@ use Rattle.task_types.specs.Reading.{new_trees}
 use Rattle.name_states.specs.States.{IdRecord, id_at}
 use Rattle.name_states.specs.Trees.{tree_of}
 use Rattle.name_states.specs.declared.holder.Holder.TheVariants.{Task as ByTask}
-use Rattle.name_states.proofs.Within.{AreMore}
 use Rattle.task_states.specs.States.{Unfinished, task_at}
 use Rattle.name_machine.specs.Control.{Control, Grown, ref_known}
 use Rattle.name_machine.proofs.FinishNames.{IsIn}

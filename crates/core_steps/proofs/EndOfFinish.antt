@@ -1,22 +1,19 @@
 -- Where a finish ends its task: what is awaited is settled, or awaits a new task.
-use Rattle.std.proofs.Common.{◌≡◌, ℕ, ◌<◌, ◌≤◌, List, ◌++◌, length, slice_get, Some, IsSome, refl, sym, ap, subst, ◌∙◌, arith}
+use Rattle.std.proofs.Common.{◌≡◌, ℕ, List, ◌++◌, slice_get, Some, IsSome, sym, ◌∙◌}
 use Rattle.cht_ids.specs.declared.refs.Ref.{Ref}
-use Rattle.task_types.specs.declared.outcome.Place.TheVariants.{Task}
 use Rattle.task_types.specs.declared.outcome.Outcome.{Outcome}
 use Rattle.name_states.specs.States.{NameState, IsLiveRef}
-use Rattle.task_states.specs.States.{Input, Awaits, Unfinished, Graph, task_at, input_at, AwaitsNothing}
+use Rattle.task_states.specs.States.{Awaits, Unfinished, Graph, task_at, input_at, AwaitsNothing}
 use Rattle.task_states.specs.Awaiters.{IsNotAwaited}
 use Rattle.task_states.specs.Steps.{settled, redirected, all_delivered, forwarded}
 use Rattle.name_machine.specs.Control.{Control, with_number, copies_of, awaiting}
-use Rattle.name_machine.specs.NewTasks.{number_at}
 use Rattle.name_machine.proofs.Ends.{inputs_at}
 use Rattle.name_machine.proofs.FinishSettled.{settled_more, settled_own}
 use Rattle.core_steps.specs.Begin.{CanFinish}
 use Rattle.core_steps.specs.Ending.{HoldsExactly}
 use Rattle.core_steps.proofs.Course as course
 use Rattle.core_steps.proofs.Exact.{exact}
-use Rattle.core_steps.proofs.Awaited.{another_task}
-use Rattle.core_steps.proofs.Handed.{HandsOn, IsHanded, settles, redirects, settled_hands, forwarded_hands, still_there, awaits_nothing, not_awaited}
+use Rattle.core_steps.proofs.Handed.{settles, redirects, settled_hands, forwarded_hands, still_there, awaits_nothing, not_awaited}
 
 -- what ending a task wants of the names and of the unfinished tasks
 pub record MayEnd {C K : Type 0} (names : NameState C) (graph : Graph Ref K) (task : ℕ) (refs : List Ref) : Type 0 where

@@ -1,6 +1,5 @@
 -- What a finished task holds: its inputs and its new chunks, each once.
-use Rattle.std.proofs.Common.{◌≡◌, ℕ, zero, suc, ◌+◌, ◌<◌, ◌≤◌, ◌⊎◌, inl, inr, List, [], ◌∷◌, ◌++◌, map as each, length, slice_get, None, Some, is_some, refl, sym, ap, subst, ◌∙◌, arith}
-use Rattle.std.specs.Option.{option_map}
+use Rattle.std.proofs.Common.{◌≡◌, ℕ, zero, suc, ◌+◌, ◌<◌, ◌≤◌, ◌⊎◌, inl, inr, List, [], ◌∷◌, ◌++◌, map as each, length, slice_get, Some, is_some, refl, sym, ap, ◌∙◌, arith}
 use Rattle.cht_ids.specs.declared.refs.Id.{Id}
 use Rattle.cht_ids.specs.declared.refs.Ref.{Ref}
 use Rattle.cht_ids.specs.declared.refs.Ref.TheVariants.{Null, Id as Held}
@@ -9,21 +8,20 @@ use Rattle.task_types.specs.declared.outcome.Outcome.{Outcome}
 use Rattle.task_types.specs.declared.outcome.Places.{Places}
 use Rattle.task_types.specs.Places.{places_of}
 use Rattle.name_states.specs.declared.holder.Holder.TheVariants.{Task as ByTask}
-use Rattle.name_states.specs.States.{NameState, IdRecord, id_at, record_of, holder_of}
+use Rattle.name_states.specs.States.{NameState, IdRecord, id_at}
 use Rattle.name_states.proofs.Basics.{none_not_some, same_some}
-use Rattle.name_states.proofs.Within.{AreMore, naming-number}
-use Rattle.task_states.specs.States.{Input, Known, Awaits, Unfinished, task_at, input_at}
+use Rattle.name_states.proofs.Within.{AreMore}
+use Rattle.task_states.specs.States.{Input, Known, Awaits, Unfinished}
 use Rattle.name_machine.specs.Control.{Control, Grown, ref_known, chunk_more, chunks_more}
 use Rattle.name_machine.specs.NewTasks.{taken}
 use Rattle.name_machine.proofs.Ends.{inputs_at}
 use Rattle.name_machine.proofs.Orderly.{held_entry}
 use Rattle.name_machine.proofs.FinishNames.{IsIn}
 use Rattle.name_machine.proofs.FinishMiddle.{ref_more}
-use Rattle.name_machine.specs.Standing.{IsRefOf}
 use Rattle.core_steps.specs.Begin.{CanFinish}
 use Rattle.core_steps.specs.Ending.{HoldsExactly}
 use Rattle.core_steps.proofs.Course as course
-use Rattle.core_steps.proofs.Endings.{held_at, number_from}
+use Rattle.core_steps.proofs.Endings.{number_from}
 
 -- ---- Lists behind each other
 
@@ -64,21 +62,21 @@ rise_more low high next refs id rise up above below = record {
     | inl old ↦ elim (either_place refs (Held id ∷ []) q (Held two) at) [
       | inl rest ↦ rise.once p q one two old rest same
       | inr new ↦ absurd (
-        let two_is = held_same id two (one_place (Held id) (Held two) new.0 new.2).1 in
-        let low_one = (rise.within p one old).1 in
-        omega arith)
+          let two_is = held_same id two (one_place (Held id) (Held two) new.0 new.2).1 in
+          let low_one = (rise.within p one old).1 in
+          omega arith)
     ]
     | inr first ↦ elim (either_place refs (Held id ∷ []) q (Held two) at) [
       | inl rest ↦ absurd (
-        let one_is = held_same id one (one_place (Held id) (Held one) first.0 first.2).1 in
-        let low_two = (rise.within q two rest).1 in
-        omega arith)
+          let one_is = held_same id one (one_place (Held id) (Held one) first.0 first.2).1 in
+          let low_two = (rise.within q two rest).1 in
+          omega arith)
       | inr new ↦ (
-        let p_is = first.1 in
-        let q_is = new.1 in
-        let p_end = (one_place (Held id) (Held one) first.0 first.2).0 in
-        let q_end = (one_place (Held id) (Held two) new.0 new.2).0 in
-        omega arith)
+          let p_is = first.1 in
+          let q_is = new.1 in
+          let p_end = (one_place (Held id) (Held one) first.0 first.2).0 in
+          let q_end = (one_place (Held id) (Held two) new.0 new.2).0 in
+          omega arith)
     ]
   ];
 }

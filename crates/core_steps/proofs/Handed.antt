@@ -1,22 +1,19 @@
 -- The unfinished tasks once the output of a finished one is handed on, and which became Ready.
-use Rattle.std.proofs.Common.{◌≡◌, ℕ, zero, suc, ◌+◌, ◌<◌, ◌≤◌, ◌⊎◌, inl, inr, Bool, true, false, cond, nat_eq, List, [], ◌∷◌, map as each, length, slice_get, slice_index_or, Option, None, Some, is_some, IsSome, refl, sym, ap, subst, ◌∙◌, arith}
+use Rattle.std.proofs.Common.{◌≡◌, ℕ, zero, suc, inl, inr, Bool, true, false, cond, nat_eq, List, [], ◌∷◌, map as each, slice_get, Option, None, Some, is_some, IsSome, refl, sym, ap, ◌∙◌}
 use Rattle.std.specs.Option.{option_map}
 use Rattle.std.specs.List.{list_any}
-use Rattle.std.specs.FinMap as map
-use Rattle.std.specs.FinSet as sets
 use Rattle.cht_ids.specs.declared.refs.Ref.{Ref}
-use Rattle.name_states.proofs.Basics.{none_not_some, same_some, same_or_not, test_same, test_apart, removed_here, removed_other, removed_from}
+use Rattle.name_states.proofs.Basics.{none_not_some, same_some, same_or_not, test_same, test_apart}
 use Rattle.task_states.specs.declared.states.TaskStatus.{TaskStatus}
 use Rattle.task_states.specs.declared.states.TaskStatus.TheVariants.{Unknown, Waiting, Ready, Running}
-use Rattle.task_states.specs.declared.states.Awaiter.{Awaiter}
 use Rattle.task_states.specs.declared.states.Awaiter.TheVariants.{Input as AtInput, Asked}
 use Rattle.task_states.specs.Maps.{each_changed}
-use Rattle.task_states.specs.States.{Input, Known, Awaits, Unfinished, Graph, task_at, input_at, asked_of, status, status_of, is_awaiting, AwaitsNothing}
-use Rattle.task_states.specs.Steps.{settled, redirected, all_delivered, inputs_redirected, without_asked, with_asked, asked_moved, forwarded, removed}
-use Rattle.task_states.specs.Awaiters.{IsAwaiter, IsNotAwaited}
+use Rattle.task_states.specs.States.{Input, Known, Awaits, Unfinished, Graph, task_at, asked_of, status, status_of, is_awaiting, AwaitsNothing}
+use Rattle.task_states.specs.Steps.{settled, redirected, all_delivered, inputs_redirected, without_asked, asked_moved, forwarded}
+use Rattle.task_states.specs.Awaiters.{IsNotAwaited}
 use Rattle.task_states.proofs.Maps.{get-each_changed}
 use Rattle.task_states.proofs.Changes.{changed_here, changed_other, changed_from}
-use Rattle.task_states.proofs.Deliveries.{task_behind, input_there}
+use Rattle.task_states.proofs.Deliveries.{task_behind}
 use Rattle.name_machine.proofs.Tasks.{mapped_from}
 use Rattle.name_machine.proofs.FinishSettled.{settled_awaits}
 
@@ -68,7 +65,6 @@ known_stay task f hands (Known r ∷ inputs) is = ap (λ i. list_any is_awaiting
 known_stay task f hands (Awaits a n ∷ inputs) is = absurd (let clash : true ≡ false = is in cc)
 
 -- ---- How far a task is
-
 
 module _ {X K : Type 0} where
   -- a Ready task awaits nothing, and nobody runs it

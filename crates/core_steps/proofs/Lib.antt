@@ -5,13 +5,10 @@ mod Delivering
 pub mod Awaited
 pub mod Resolved
 mod Endings
-mod Delivering
 pub mod Course
 pub mod Exact
 pub mod Handed
 pub mod Newly
-pub mod Awaited
-pub mod Resolved
 pub mod EndOfFinish
 pub mod Holding
 pub mod Adding

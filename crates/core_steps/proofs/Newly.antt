@@ -1,17 +1,17 @@
 -- Which tasks became Ready by a finish: new ones, and those whose last input came.
-use Rattle.std.proofs.Common.{◌≡◌, ◌↔◌, ℕ, zero, suc, ◌+◌, ◌<◌, ◌≤◌, ◌⊎◌, inl, inr, Bool, true, false, cond, nat_eq, List, [], ◌∷◌, map as each, length, slice_get, slice_index_or, Option, None, Some, refl, sym, ap, subst, ◌∙◌, arith}
+use Rattle.std.proofs.Common.{◌≡◌, ◌↔◌, ℕ, zero, suc, ◌+◌, ◌<◌, ◌≤◌, ◌⊎◌, inl, inr, Bool, true, false, cond, nat_eq, List, [], ◌∷◌, length, slice_get, None, Some, refl, sym, ap, subst, ◌∙◌, arith}
 use Rattle.std.specs.List.{Contains, IsDistinct, AllByRecursion, filter}
 use Rattle.cht_ids.specs.declared.refs.Ref.{Ref}
 use Rattle.task_types.specs.declared.outcome.Place.{Place}
 use Rattle.task_types.specs.declared.outcome.NewTask.{NewTask}
 use Rattle.task_types.specs.Places.{places_of}
-use Rattle.name_states.proofs.Basics.{none_not_some, same_some, same_or_not, test_apart, removed_here, removed_other}
+use Rattle.name_states.proofs.Basics.{none_not_some, test_apart, removed_here, removed_other}
 use Rattle.task_states.specs.declared.states.TaskStatus.{TaskStatus}
 use Rattle.task_states.specs.declared.states.TaskStatus.TheVariants.{Unknown, Waiting, Ready, Running}
 use Rattle.task_states.specs.States.{Unfinished, Graph, task_at, status, status_of}
 use Rattle.task_states.specs.Steps.{removed}
 use Rattle.name_machine.specs.NewTasks.{taken, task_numbers, number_at, with_tasks}
-use Rattle.name_machine.proofs.Added.{IsNew, old_stays, new_from, number_drawn}
+use Rattle.name_machine.proofs.Added.{old_stays, new_from}
 use Rattle.name_machine.proofs.FinishNames.{IsIn}
 use Rattle.core_steps.specs.Delivered.{IsNowReady}
 use Rattle.core_steps.specs.Ending.{is_ready, is_ready_in}
@@ -154,8 +154,7 @@ module _ {K : Type 0} (value : Place → ℕ → Ref) (numbers : List ℕ) (call
           | inl new ↦
               let both = filter_from (is_ready_in added_all) (task_numbers base tasks) q (contains_in new_ready q new) in
               let high = number_above base tasks q both.0 in
-              let apart : q ≡ task → ⊥ = λ same. omega arith in
-              (
+              let apart : q ≡ task → ⊥ = λ same. omega arith in (
                 status_left q apart ∙ stays q apart (ready_test (status added_all q) both.1),
                 λ was. (let down = (was_ready q was).0 in omega arith),
               )

@@ -4,6 +4,4 @@ pub mod Ending
 pub mod Delivered
 pub mod NewlyReady
 pub mod Registrable
-pub mod Delivered
 pub mod NewTasks
-pub mod NewlyReady

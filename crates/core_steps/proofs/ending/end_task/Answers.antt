@@ -1,9 +1,6 @@
 use Rattle.std.proofs.Common.{◌++◌, sym, ap, subst, ◌∙◌}
 use Rattle.core_steps.specs.Ending.{AreDeletable, deleted_refs}
 use Rattle.core_steps.proofs.Endings.{all_deletable, deletable_first, deletable_second, deleted_more, ended_is}
-use Rattle.core_steps.proofs.Exact.{exact}
-use Rattle.core_steps.proofs.Newly.{newly}
-use Rattle.core_steps.proofs.Handed.{forwarded_ready}
 use Rattle.core_steps.proofs.ending.end_task.Goals as goal
 
 pub delete_refs-requires-after_bounds : goal.delete_refs-requires-after_bounds

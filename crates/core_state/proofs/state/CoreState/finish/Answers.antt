@@ -1,4 +1,4 @@
-use Rattle.std.proofs.Common.{◌≡◌, ◌-◌, ◌+◌, ◌≤◌, ◌<◌, ◌++◌, ◌∷◌, [], length, is_some, sym, ap, subst, ◌∙◌, refl, arith}
+use Rattle.std.proofs.Common.{◌≡◌, ◌-◌, ◌<◌, length, is_some, sym, ap, subst, ◌∙◌, arith}
 use Rattle.std.specs.Prelude.{map as each, slice_get, Some}
 use Rattle.cht_history.specs.declared.event.Event.TheVariants.{Finish}
 use Rattle.task_types.specs.declared.outcome.NewChunk.{NewChunk}
@@ -32,11 +32,12 @@ pub take_effect-ready-requires-clause-can : goal.take_effect-ready-requires-clau
 take_effect-ready-requires-clause-can g c κs inside =
     let state = c.self.inside in
     let within : c.args.w < length state.running.items = rw (← c.self.view_is) at c.requires.worker in
-    let can = subst (λ (v : Contents g.row.C.Denot g.row.K.Denot). CanFinish g.C.Payload.arity v.control c.args.w c.requires.formed.0 c.requires.formed.1 c.args.outcome) (sym c.self.view_is) c.requires.formed.2 in
-    (c.requires.formed.1,
-    can_then g.C.Payload.arity state.counter state.names.names state.asks.asks state.graph.graph state.running.items c.self.invariant.run c.args.w c.requires.formed.0 c.requires.formed.1 c.args.outcome can
-    c.unwrap-task.result c.index.result.now within c.index.ensures c.unwrap-task.ensures
-    c.prepare.new.names.names c.prepare.new.graph.graph c.as_slice-2.result.now c.prepare.ensures.names c.prepare.ensures.graph c.as_slice-2.ensures)
+    let can = subst (λ (v : Contents g.row.C.Denot g.row.K.Denot). CanFinish g.C.Payload.arity v.control c.args.w c.requires.formed.0 c.requires.formed.1 c.args.outcome) (sym c.self.view_is) c.requires.formed.2 in (
+      c.requires.formed.1,
+      can_then g.C.Payload.arity state.counter state.names.names state.asks.asks state.graph.graph state.running.items c.self.invariant.run c.args.w c.requires.formed.0 c.requires.formed.1 c.args.outcome can
+          c.unwrap-task.result c.index.result.now within c.index.ensures c.unwrap-task.ensures
+          c.prepare.new.names.names c.prepare.new.graph.graph c.as_slice-2.result.now c.prepare.ensures.names c.prepare.ensures.graph c.as_slice-2.ensures,
+    )
 
 pub invariant_of-self-2 : goal.invariant_of-self-2
 invariant_of-self-2 g c =
