@@ -1,15 +1,15 @@
 -- What is not there: nobody but the caller has anything, and at rest the caller has nothing but its identifiers.
-use Rattle.std.proofs.Common.{◌≡◌, ℕ, ◌+◌, true, false, nat_cmp, List, [], ◌∷◌, Option, None, Some, inl, inr, refl, sym, ap, subst, ◌∙◌}
+use Rattle.std.proofs.Common.{◌≡◌, ℕ, true, false, nat_cmp, Option, Some, inl, inr, refl, sym, ap, ◌∙◌}
 use Rattle.std.specs.FinMap as map
 use Rattle.task_types.specs.Tree.{Tree}
 use Rattle.task_types.specs.Meanings.{Meanings}
 use Rattle.task_states.specs.Maps.{chosen}
 use Rattle.task_states.specs.States.{Unfinished, Graph, task_at, is_stopped}
-use Rattle.name_states.proofs.Basics.{none_not_some, none_or_some, same_or_not, same_from_test}
-use Rattle.name_machine.specs.States.{Machine, Ask, Holding, is_of, has_ask}
+use Rattle.name_states.proofs.Basics.{none_not_some, none_or_some, same_or_not}
+use Rattle.name_machine.specs.States.{Ask, Holding, is_of}
 use Rattle.name_machine.specs.Goals.{goal_of}
 use Rattle.name_machine.specs.Facts.{HoldsTogether, EndsAtAsk, Asked, Awaited}
-use Rattle.name_machine.specs.Parts.{Named, named_for, goal_for, names_of, asks_of, works_of, work_left}
+use Rattle.name_machine.specs.Parts.{named_for, goal_for, works_of}
 use Rattle.name_machine.proofs.Totals.{total_none}
 use Rattle.name_machine.proofs.Values.{any_to}
 use Rattle.name_machine.proofs.Works.{chosen_to, lets_through, work_from}

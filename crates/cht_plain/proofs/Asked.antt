@@ -1,5 +1,5 @@
 -- What an ask makes of what the caller sees.
-use Rattle.std.proofs.Common.{◌≡◌, ℕ, ◌+◌, true, false, nat_cmp, List, [], ◌∷◌, ◌++◌, map as each, Option, None, Some, Result, Ok, Err, IfOk, inl, inr, refl, sym, ap, subst, ◌∙◌, append_assoc, arith}
+use Rattle.std.proofs.Common.{◌≡◌, ℕ, ◌+◌, List, [], ◌∷◌, ◌++◌, map as each, None, Some, Result, Ok, Err, IfOk, inl, inr, refl, sym, ap, subst, ◌∙◌, append_assoc}
 use Rattle.std.specs.FinMap as map
 use Rattle.cht_ids.specs.declared.memory.Memory.{Memory}
 use Rattle.cht_ids.specs.declared.refs.Ref.{Ref}
@@ -7,7 +7,7 @@ use Rattle.cht_ids.specs.declared.refs.Ref.TheVariants.{Null, Id as Held}
 use Rattle.task_types.specs.Tree.{Tree, Nothing, Root}
 use Rattle.task_types.specs.Meanings.{Meanings}
 use Rattle.task_states.specs.States.{Unfinished, Known, task_at, is_stopped}
-use Rattle.task_states.specs.Steps.{added}
+use Rattle.task_states.specs.Steps.{added, with_asked}
 use Rattle.name_states.specs.Steps.{present}
 use Rattle.name_states.proofs.Basics.{none_not_some, test_apart, inserted_from}
 use Rattle.cht_history.specs.declared.event.Event.{Event}
@@ -15,13 +15,13 @@ use Rattle.cht_history.specs.declared.event.Event.TheVariants.{Ask as AskEvent, 
 use Rattle.name_machine.specs.States.{Machine, Ask, IsIdle}
 use Rattle.name_machine.specs.States as machine
 use Rattle.name_machine.specs.Facts.{HoldsTogether}
-use Rattle.name_machine.specs.Parts.{named_for, goal_for, names_of, asks_of}
+use Rattle.name_machine.specs.Parts.{goal_for, names_of, asks_of}
 use Rattle.name_machine.proofs.Tasks.{changed_from}
 use Rattle.core_state.specs.Contents.{Contents}
 use Rattle.cht_core.specs.Events.{state, Happens}
 use Rattle.cht_engine.specs.Seen.{Seen, MayMentionAll, with_name}
 use Rattle.cht_engine.specs.Calls.{trees_named, IsOutput, answered, IsAsked}
-use Rattle.cht_plain.specs.Alone.{seen_of, IsAlone, IsAtRest, IsWaiting}
+use Rattle.cht_plain.specs.Alone.{seen_of, IsAtRest, IsWaiting}
 use Rattle.cht_plain.specs.Serving.{AwaitsOne, IsServed, collected, waiting_for}
 use Rattle.cht_plain.proofs.Chosen.{chosen-insert}
 use Rattle.cht_plain.proofs.Kept.{alone_then, own_written}
@@ -36,7 +36,8 @@ module _ {C K : Type 0} (lib : Meanings C K) (arity : C → ℕ) (before after :
       let now : Machine C K = state lib before in
       let graph = added now.graph (now.drawn + 1) 0 kind (each Known (each (machine.tree_named now) inputs)) in
       let change : Unfinished (Tree C) K → Unfinished (Tree C) K = λ unfinished. record unfinished { asked = Some (now.drawn + 2 + present inputs) } in
-      let from = changed_from graph (now.drawn + 1) q change runs.0 (ap (λ (m : Machine C K). task_at m.graph q) (sym happens.step.after_is) ∙ runs.1) in
+      let there : task_at (with_asked graph (now.drawn + 1) (now.drawn + 2 + present inputs)) q ≡ Some runs.0 = ap (λ (m : Machine C K). task_at m.graph q) (sym happens.step.after_is) ∙ runs.1 in
+      let from = changed_from graph (now.drawn + 1) q change runs.0 there in
       let new = inserted_from now.graph.tasks (now.drawn + 1) q _ from.0 from.1 in
       elim new [
         | inl here ↦ elim from.2 [

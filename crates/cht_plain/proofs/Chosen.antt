@@ -1,5 +1,5 @@
 -- Chosen values of a map, where a value is put under a key, and where one goes.
-use Rattle.std.proofs.Common.{◌≡◌, ℕ, ◌+◌, Bool, true, false, cond, nat_cmp, List, [], ◌∷◌, ◌++◌, count_by, Option, None, Some, inl, inr, refl, sym, ap, ◌∙◌, arith}
+use Rattle.std.proofs.Common.{◌≡◌, ℕ, nat_cmp, Option, Some, inl, inr, refl, sym, ap, ◌∙◌}
 use Rattle.std.specs.Option.{option_and_then}
 use Rattle.std.specs.FinMap as map
 use Rattle.task_states.specs.Maps.{chosen}

@@ -1,14 +1,11 @@
 -- A new core, and one whose caller holds nothing any more.
-use Rattle.std.proofs.Common.{◌≡◌, ℕ, ◌+◌, ◌≤◌, nat_cmp, List, [], filter, count_by, Option, None, Some, Result, Ok, Err, IfOk, refl, sym, ap, subst, ◌∙◌, arith}
+use Rattle.std.proofs.Common.{◌≡◌, ℕ, ◌+◌, nat_cmp, List, [], filter, count_by, Some, Result, Ok, Err, IfOk, sym, ap, ◌∙◌, arith}
 use Rattle.std.specs.FinMap as map
-use Rattle.std.specs.Option.{option_map}
 use Rattle.cht_ids.specs.declared.memory.Memory.{Memory}
 use Rattle.task_types.specs.Meanings.{Meanings}
 use Rattle.name_states.specs.WithoutContents.{without_content, each_value}
 use Rattle.name_states.proofs.Values.{get_each_value}
 use Rattle.task_states.proofs.Options.{map_behind}
-use Rattle.task_states.proofs.Maps.{get-chosen}
-use Rattle.name_states.proofs.Basics.{none_not_some}
 use Rattle.cht_history.specs.declared.event.Event.{Event}
 use Rattle.name_machine.specs.States.{Machine, opening}
 use Rattle.name_machine.specs.Control.{Control}
@@ -16,15 +13,15 @@ use Rattle.name_machine.specs.Facts.{HoldsTogether}
 use Rattle.name_machine.specs.Forgetting.{forgotten}
 use Rattle.name_machine.specs.Parts.{is_callers_own, finishes_of, named_for, goal_for, names_of, asks_of, work_for, works_of, work_left, caller_part}
 use Rattle.name_machine.specs.Goals.{goal_of}
-use Rattle.name_machine.specs.Replay.{Plans, Replayed, replay}
-use Rattle.name_machine.specs.Standing.{HasNothing, HoldsNothing, machine_of}
+use Rattle.name_machine.specs.Replay.{Plans, replay}
+use Rattle.name_machine.specs.Standing.{HasNothing, HoldsNothing}
 use Rattle.name_machine.proofs.Empty.{none_in, no_len, empty_both_ways}
 use Rattle.name_machine.proofs.Totals.{total_none}
 use Rattle.core_state.specs.Contents.{Contents}
 use Rattle.cht_core.specs.Events.{state, Stands}
 use Rattle.cht_engine.specs.Seen.{unseen, seen_by}
 use Rattle.cht_engine.specs.Closing.{is_finish, AreClosed}
-use Rattle.cht_plain.specs.Alone.{seen_of, left, IsAlone, IsAtRest}
+use Rattle.cht_plain.specs.Alone.{seen_of, left, IsAtRest}
 use Rattle.cht_plain.proofs.Chosen.{chosen-empty}
 use Rattle.cht_plain.proofs.Absent.{none_held, none_asked, none_unfinished, none_stopped, none_left}
 

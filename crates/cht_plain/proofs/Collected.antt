@@ -1,9 +1,8 @@
 -- What is left after the caller collected, or gave up.
-use Rattle.std.proofs.Common.{◌≡◌, ℕ, ◌+◌, ◌≤◌, Bool, true, false, cond, not, nat_eq, nat_cmp, List, [], ◌∷◌, ◌++◌, Option, None, Some, Result, Ok, Err, inl, inr, refl, sym, ap, subst, ◌∙◌, arith}
+use Rattle.std.proofs.Common.{◌≡◌, ℕ, Bool, true, false, cond, not, nat_eq, nat_cmp, [], ◌∷◌, ◌++◌, Option, None, Some, inl, inr, refl, sym, ap, subst, ◌∙◌, arith}
 use Rattle.std.specs.Option.{option_and_then, is_some}
 use Rattle.std.specs.List.{list_any}
 use Rattle.std.specs.FinMap as map
-use Rattle.cht_ids.specs.declared.memory.Memory.{Memory}
 use Rattle.cht_ids.specs.declared.refs.Ref.{Ref}
 use Rattle.cht_ids.specs.declared.refs.Ref.TheVariants.{Null, Id as Held}
 use Rattle.task_types.specs.Tree.{Tree, Nothing, Root}
@@ -13,9 +12,9 @@ use Rattle.task_states.specs.declared.states.TaskStatus.TheVariants.{Waiting, Re
 use Rattle.task_states.specs.States.{Unfinished, task_at, status_of, is_awaiting, is_running, running, is_run_for}
 use Rattle.task_states.proofs.Maps.{get-chosen, get-kept, same_maps}
 use Rattle.task_types.proofs.FormedTest.{both_right}
-use Rattle.name_states.proofs.Basics.{none_not_some, none_or_some, same_some, test_same, test_apart}
+use Rattle.name_states.proofs.Basics.{none_not_some, none_or_some, same_some, test_apart}
 use Rattle.cht_history.specs.declared.event.Event.TheVariants.{Collect, Abandon}
-use Rattle.name_machine.specs.States.{Machine, Ask, Holding, is_of, has_ask}
+use Rattle.name_machine.specs.States.{Machine, Ask, is_of, has_ask}
 use Rattle.name_machine.specs.Steps.{collected}
 use Rattle.name_machine.specs.Machine.{IsLegalRun, IsAnswer, owner_of}
 use Rattle.name_machine.specs.Facts.{HoldsTogether}
@@ -29,15 +28,14 @@ use Rattle.cht_core.specs.Events.{state, Happens}
 use Rattle.cht_core.specs.Answers.{IsAbandoned}
 use Rattle.cht_core.specs.declared.answers.Abandoned.{Abandoned}
 use Rattle.cht_core.specs.declared.answers.Abandoned.TheVariants.{Gone, StillRunning}
-use Rattle.cht_engine.specs.Seen.{Seen, IsNew}
 use Rattle.cht_engine.specs.Calls.{IsOutput, with_output}
-use Rattle.cht_plain.specs.Alone.{seen_of, IsAlone, IsAtRest, IsWaiting}
+use Rattle.cht_plain.specs.Alone.{seen_of, IsAtRest, IsWaiting}
 use Rattle.cht_plain.specs.Serving as serving
 use Rattle.cht_plain.specs.Serving.{AwaitsOne, IsLeft, IsServed}
 use Rattle.cht_plain.proofs.Chosen.{chosen-insert, chosen-remove, one_less}
 use Rattle.cht_plain.proofs.Kept.{alone_then, own_written}
 use Rattle.cht_plain.proofs.Own.{apart_in}
-use Rattle.cht_plain.proofs.Ready.{ask_awaited, status_is}
+use Rattle.cht_plain.proofs.Ready.{ask_awaited}
 
 module _ {C K : Type 0} (lib : Meanings C K) (arity : C → ℕ) (before after : Contents C K) (waiting : IsWaiting lib before) (task : ℕ) where
   -- an output comes to the caller under the number of its ask

@@ -1,19 +1,17 @@
 -- What is left after the worker finished a task, or gave it back.
-use Rattle.std.proofs.Common.{◌≡◌, ℕ, ◌+◌, true, false, cond, nat_eq, List, map as each, Option, None, Some, inl, inr, refl, sym, ap, subst, ◌∙◌, arith}
-use Rattle.std.specs.FinMap as map
+use Rattle.std.proofs.Common.{◌≡◌, ℕ, ◌+◌, cond, None, Some, inl, inr, refl, sym, ap, subst, ◌∙◌, arith}
 use Rattle.task_types.specs.declared.outcome.Outcome.{Outcome}
 use Rattle.task_types.specs.Tree.{Tree}
 use Rattle.task_types.specs.Meanings.{Meanings}
 use Rattle.task_types.specs.Sound.{IsSound, IsSoundFor, HasGoal}
 use Rattle.task_states.specs.States.{Unfinished, task_at, is_stopped}
-use Rattle.name_states.proofs.Basics.{none_not_some, same_some}
-use Rattle.cht_history.specs.declared.event.Event.{Event}
-use Rattle.cht_history.specs.declared.event.Event.TheVariants.{GiveBack, Finish}
-use Rattle.name_machine.specs.States.{Machine, Runs, IsIdle, opening}
+use Rattle.name_states.proofs.Basics.{none_not_some}
+use Rattle.cht_history.specs.declared.event.Event.TheVariants.{GiveBack}
+use Rattle.name_machine.specs.States.{Machine, Runs, opening}
 use Rattle.name_machine.specs.Machine.{IsLegalRun}
 use Rattle.name_machine.specs.Facts.{HoldsTogether}
 use Rattle.name_machine.specs.Steps.{input_trees}
-use Rattle.name_machine.specs.Parts.{untold, told_after, is_whose, is_callers_own, finishes_by}
+use Rattle.name_machine.specs.Parts.{untold, told_after, is_whose, finishes_by}
 use Rattle.name_machine.proofs.Accounts.{tells_run, tells_opening}
 use Rattle.name_machine.proofs.Finished.{finished_graph}
 use Rattle.name_machine.proofs.Finishing.{from_final, stopped_final}
@@ -25,7 +23,7 @@ use Rattle.core_state.specs.Contents.{Contents}
 use Rattle.cht_core.specs.Events.{state, Happens}
 use Rattle.cht_core.specs.Granted.{inputs_granted}
 use Rattle.cht_core.specs.declared.answers.Started.{Started}
-use Rattle.cht_plain.specs.Alone.{seen_of, left, IsAlone, IsWaiting, IsBusy, Executes}
+use Rattle.cht_plain.specs.Alone.{seen_of, left, IsWaiting, IsBusy, Executes}
 use Rattle.cht_plain.proofs.Absent.{task_by}
 use Rattle.cht_plain.proofs.Kept.{alone_then}
 use Rattle.cht_plain.proofs.Started.{seen_same, left_then}

@@ -1,6 +1,5 @@
 -- What stays of a core with one caller and one worker.
-use Rattle.std.proofs.Common.{◌≡◌, ℕ, ◌+◌, Bool, true, false, cond, nat_cmp, List, [], ◌∷◌, ◌++◌, filter, append-nil, count_by, refl, sym, ap, subst, ◌∙◌, arith}
-use Rattle.std.specs.FinMap as map
+use Rattle.std.proofs.Common.{◌≡◌, ℕ, ◌+◌, true, false, cond, [], ◌∷◌, ◌++◌, filter, count_by, sym, ap, ◌∙◌}
 use Rattle.std.proofs.lemmas.List.Elements.{filter-append}
 use Rattle.std.proofs.lemmas.List.Sums.{sum_by_push}
 use Rattle.task_types.specs.Meanings.{Meanings}
@@ -8,9 +7,9 @@ use Rattle.cht_history.specs.declared.event.Event.{Event}
 use Rattle.name_machine.specs.Parts.{untold, told_after, is_callers_own, finishes_by, finishes_of, CallerPart}
 use Rattle.name_machine.proofs.Telling.{finishes_then}
 use Rattle.core_state.specs.Contents.{Contents}
-use Rattle.cht_core.specs.Events.{state, Happens}
+use Rattle.cht_core.specs.Events.{Happens}
 use Rattle.cht_engine.specs.Closing.{is_finish}
-use Rattle.cht_plain.specs.Alone.{IsAlone, IsAbsent}
+use Rattle.cht_plain.specs.Alone.{IsAlone}
 
 module _ {C K : Type 0} (lib : Meanings C K) (arity : C → ℕ) (before after : Contents C K) (event : Event K) (happens : Happens lib arity before after event) where
   -- as many tasks of the caller as an event finishes, so many it finishes

@@ -1,32 +1,31 @@
 -- What each event of the caller makes of what it sees.
-use Rattle.std.proofs.Common.{◌≡◌, ℕ, ◌+◌, ◌≤◌, true, false, nat_eq, nat_cmp, List, [], ◌∷◌, ◌++◌, map as each, length, Option, None, Some, Result, Ok, Err, IfOk, OnOk, OnErr, inl, inr, refl, sym, ap, subst, ◌∙◌, arith}
+use Rattle.std.proofs.Common.{◌≡◌, ℕ, ◌+◌, ◌≤◌, List, map as each, None, Some, Result, Ok, Err, IfOk, OnOk, OnErr, inl, inr, refl, sym, ap, subst, ◌∙◌, arith}
 use Rattle.std.specs.Option.{option_and_then}
 use Rattle.std.specs.FinMap as map
 use Rattle.cht_ids.specs.declared.memory.Memory.{Memory}
 use Rattle.cht_ids.specs.declared.refs.Id.{Id}
 use Rattle.cht_ids.specs.declared.refs.Ref.{Ref}
-use Rattle.cht_ids.specs.declared.refs.Ref.TheVariants.{Null, Id as Held}
-use Rattle.task_types.specs.Tree.{Tree, rooted}
+use Rattle.cht_ids.specs.declared.refs.Ref.TheVariants.{Id as Held}
+use Rattle.task_types.specs.Tree.{rooted}
 use Rattle.task_types.specs.Meanings.{Meanings}
 use Rattle.task_states.proofs.Maps.{get-chosen}
-use Rattle.name_states.proofs.Basics.{none_not_some, none_or_some, test_apart}
-use Rattle.cht_history.specs.declared.event.Event.{Event}
+use Rattle.name_states.proofs.Basics.{none_or_some, test_apart}
 use Rattle.cht_history.specs.declared.event.Event.TheVariants.{Register, Copy, Delete}
 use Rattle.name_machine.specs.States.{Machine, opening, tree_of_holding}
 use Rattle.name_machine.specs.States as machine
 use Rattle.name_machine.specs.Steps.{registered}
-use Rattle.name_machine.specs.Parts.{named_for, names_of, asks_of, account_of}
+use Rattle.name_machine.specs.Parts.{named_for, names_of, asks_of}
 use Rattle.name_machine.specs.Machine.{IsLegalRun}
 use Rattle.name_machine.proofs.Small.{kept_at_opening}
 use Rattle.name_machine.proofs.Held.{Held as HeldApart, mine_from, held_run, held_opening}
 use Rattle.core_state.specs.Contents.{Contents}
 use Rattle.cht_core.specs.Events.{state, Happens}
-use Rattle.cht_engine.specs.Seen.{Seen, IsNew, MayMention, MayMentionAll, tree_named, with_name, without_name, with_event}
+use Rattle.cht_engine.specs.Seen.{MayMention, MayMentionAll, tree_named}
 use Rattle.cht_engine.specs.Calls.{trees_named, IsRegistered, IsCopied, deleted}
-use Rattle.cht_plain.specs.Alone.{seen_of, IsAlone, IsAtRest}
+use Rattle.cht_plain.specs.Alone.{seen_of, IsAtRest}
 use Rattle.cht_plain.proofs.Chosen.{chosen-insert, chosen-remove}
 use Rattle.cht_plain.proofs.Kept.{alone_then, own_written}
-use Rattle.cht_plain.proofs.Mentions.{holds_so, mention_all_so, reads_so, trees_so}
+use Rattle.cht_plain.proofs.Mentions.{reads_so, trees_so}
 
 module _ {C K : Type 0} (lib : Meanings C K) (arity : C → ℕ) where
   -- a core's events lead to its state

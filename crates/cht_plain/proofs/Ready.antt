@@ -1,5 +1,5 @@
 -- Where nobody runs a task and one is unfinished, one is ready.
-use Rattle.std.proofs.Common.{◌≡◌, ℕ, zero, suc, ◌+◌, ◌<◌, true, false, cond, nat_cmp, List, [], ◌∷◌, slice_get, Option, None, Some, ◌⊎◌, inl, inr, refl, sym, ap, ◌∙◌, arith}
+use Rattle.std.proofs.Common.{◌≡◌, ℕ, zero, suc, ◌+◌, ◌<◌, false, cond, List, [], ◌∷◌, slice_get, Option, None, Some, ◌⊎◌, inl, inr, refl, sym, ap, ◌∙◌, arith}
 use Rattle.std.specs.List.{list_any}
 use Rattle.std.specs.Option.{is_some}
 use Rattle.std.specs.FinMap as map
@@ -18,7 +18,7 @@ use Rattle.name_machine.proofs.Works.{chosen_from, let_through}
 use Rattle.core_state.specs.Contents.{Contents}
 use Rattle.cht_core.specs.Events.{state}
 use Rattle.cht_core.specs.Answers.{HasAsked, IsNotDelivered}
-use Rattle.cht_plain.specs.Alone.{seen_of, IsAlone, IsWaiting}
+use Rattle.cht_plain.specs.Alone.{seen_of, IsWaiting}
 use Rattle.cht_plain.specs.Serving.{AwaitsOne}
 
 module _ {X : Type 0} where

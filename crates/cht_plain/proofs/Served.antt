@@ -1,5 +1,5 @@
 -- What the caller that waits has to do with what it saw first.
-use Rattle.std.proofs.Common.{◌≡◌, ℕ, sym, ap, subst, ◌∙◌}
+use Rattle.std.proofs.Common.{◌≡◌, ℕ, ap, subst, ◌∙◌}
 use Rattle.cht_ids.specs.declared.refs.Ref.{Ref}
 use Rattle.task_types.specs.Tree.{Tree}
 use Rattle.task_types.specs.Meanings.{Meanings}

@@ -1,5 +1,5 @@
 -- What a start of the worker leaves.
-use Rattle.std.proofs.Common.{◌≡◌, ℕ, ◌+◌, false, Option, Some, inl, inr, refl, sym, ap, ◌∙◌, arith}
+use Rattle.std.proofs.Common.{◌≡◌, ℕ, ◌+◌, false, Some, inl, inr, refl, sym, ap, ◌∙◌, arith}
 use Rattle.std.specs.Option.{option_map}
 use Rattle.task_types.specs.Tree.{Tree}
 use Rattle.task_types.specs.Meanings.{Meanings}
@@ -15,7 +15,7 @@ use Rattle.cht_core.specs.declared.answers.Started.{Started}
 use Rattle.cht_core.specs.Events.{state, Happens}
 use Rattle.cht_core.specs.Started.{IsBegun}
 use Rattle.cht_engine.specs.Seen.{Seen, seen_by}
-use Rattle.cht_plain.specs.Alone.{seen_of, left, IsAlone, IsWaiting, IsBusy, Executes}
+use Rattle.cht_plain.specs.Alone.{seen_of, left, IsWaiting}
 use Rattle.cht_plain.specs.Begun.{HasBegun}
 use Rattle.cht_plain.proofs.Kept.{alone_then}
 

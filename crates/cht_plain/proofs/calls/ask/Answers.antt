@@ -1,6 +1,6 @@
-use Rattle.std.proofs.Common.{Err, sym, ap, subst}
+use Rattle.std.proofs.Common.{sym, ap, subst}
 use Rattle.core_state.specs.Contents.{Contents}
-use Rattle.cht_engine.specs.Calls.{trees_named, IsAsked}
+use Rattle.cht_engine.specs.Calls.{trees_named}
 use Rattle.cht_plain.specs.Alone.{seen_of, IsAtRest}
 use Rattle.cht_plain.proofs.Asked.{asked_so, not_asked, awaits_goal}
 use Rattle.cht_plain.proofs.calls.ask.Goals as goal

@@ -1,4 +1,4 @@
-use Rattle.std.proofs.Common.{◌≡◌, sym, ap, subst, ◌∙◌}
+use Rattle.std.proofs.Common.{sym, ap, subst, ◌∙◌}
 use Rattle.cht_ids.specs.declared.refs.Ref.{Ref}
 use Rattle.cht_engine.specs.Seen.{MayMention}
 use Rattle.cht_engine.specs.Calls.{deleted}

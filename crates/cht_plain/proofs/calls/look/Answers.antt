@@ -1,4 +1,4 @@
-use Rattle.std.proofs.Common.{IfOk, sym, subst, ◌≡◌, Option}
+use Rattle.std.proofs.Common.{IfOk, sym, subst, ◌≡◌}
 use Rattle.cht_ids.specs.declared.refs.Ref.TheVariants.{Id as Held}
 use Rattle.task_types.specs.Tree.{Tree}
 use Rattle.name_machine.specs.Paths.{content_at}

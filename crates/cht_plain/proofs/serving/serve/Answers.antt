@@ -2,7 +2,7 @@ use Rattle.std.proofs.Common.{◌≡◌, true, false, sym, ap, subst, ◌∙◌}
 use Rattle.core_state.specs.Contents.{Contents}
 use Rattle.task_states.specs.Awaiters.{IsRunnable}
 use Rattle.cht_core.specs.Events.{state}
-use Rattle.cht_plain.specs.Alone.{seen_of, IsWaiting}
+use Rattle.cht_plain.specs.Alone.{seen_of}
 use Rattle.cht_plain.proofs.Served.{asked_still, ready_still, got_rests, got_served, left_rests, left_served}
 use Rattle.cht_plain.proofs.serving.serve.Goals as goal
 
