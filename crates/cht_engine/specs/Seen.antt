@@ -7,7 +7,7 @@ use Rattle.cht_ids.specs.declared.refs.Ref.{Ref}
 use Rattle.cht_ids.specs.declared.refs.Ref.TheVariants.{Null, Id as Held}
 use Rattle.task_types.specs.Tree.{Tree, Nothing}
 use Rattle.cht_history.specs.declared.event.Event.{Event}
-use Rattle.name_machine.specs.Parts.{Named}
+use Rattle.name_machine.specs.Parts.{Named, CallerPart}
 
 -- What the caller of an engine sees of it: its number, which its events tell; its identifiers by number, each with the owner and the
 -- tree that it names; the goals of what it asked and has not collected, by the numbers of the tasks; its account, which is how many of
@@ -22,6 +22,11 @@ pub record Seen (C K : Type 0) : Type 0 where
 -- what a caller sees of a new engine: nothing was named, asked or done
 abbrev pub unseen : {C K : Type 0} → ℕ → Seen C K
 unseen caller = record { caller = caller; names = map.empty; asks = map.empty; account = 0; events = [] }
+
+-- what the caller with a number sees, where this is its part of a state and its history
+abbrev pub seen_by : {C K : Type 0} → ℕ → CallerPart C K → Seen C K
+seen_by caller part =
+    record { caller = caller; names = part.names; asks = part.asks; account = part.account; events = part.events }
 
 module _ {C : Type 0} where
   -- what stands under a number, where it has this owner

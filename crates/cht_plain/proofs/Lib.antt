@@ -1,0 +1,12 @@
+mod Absent
+mod Asked
+mod Chosen
+mod Closed
+mod Collected
+mod Ended
+mod Kept
+mod Mentions
+mod Own
+mod Ready
+mod Served
+mod Started

@@ -1,0 +1,153 @@
+// The caller waits for what it asked: worker 0 runs the tasks, the newest that is ready first, so that few are unfinished at a time.
+ghost use Rattle.std.specs.Prelude.{◌≡◌, ℕ, ◌+◌, IfOk, OnOk};
+ghost use Rattle.task_types.specs.Tree.{Tree};
+ghost use Rattle.task_types.specs.Sound.{HasGoal, IsSoundFor};
+ghost use Rattle.task_states.specs.Awaiters.{IsRunnable};
+ghost use Rattle.cht_core.specs.Events.{state};
+ghost use Rattle.cht_core.specs.Granted.{AreOwn, inputs_granted};
+ghost use Rattle.cht_plain.specs.Alone.{seen_of, left, IsAtRest, IsWaiting, Executes};
+ghost use Rattle.cht_plain.specs.Serving.{AwaitsOne, IsServed};
+ghost use Rattle.cht_plain.specs.Begun.{IsTried, IsBegun};
+
+use cht_core::{Collected, Core, Idle, Start, Started};
+use cht_ids::{List, Memory, Ref, TaskNo};
+use std::alloc::Global;
+use task_types::{Library, Outcome};
+
+// Runs tasks until the one that was asked is done, and collects its output. For want of memory the ask is given up.
+pub fn serve<L: Library>(alloc: Global, core: &mut Core<L>, task: TaskNo) -> Result<Ref, Memory>
+    requires waiting { IsWaiting L.meanings core.old }
+    requires awaits { (goal : Tree L.Chunk) × AwaitsOne (seen_of L.meanings core.old) task goal }
+    ensures rest { IsAtRest L.meanings core.new }
+    ensures served { IsServed (seen_of L.meanings core.old) (seen_of L.meanings core.new) task result }
+{
+    let mut newest = Vec::new(alloc);
+    loop {
+        core.stands();
+        match core.collect(0, task) {
+            Collected::Got(r) => return Ok(r),
+            Collected::NotYet => {}
+            Collected::Stopped => unreachable!(),
+        }
+        match work(alloc, core, &mut newest) {
+            Ok(()) => {}
+            Err(memory) => {
+                core.abandon(0);
+                return Err(memory);
+            }
+        }
+    }
+}
+
+// Begins a task and executes it. `newest` holds tasks that became ready, the latest last; one that is left out is found all the same.
+fn work<L: Library>(
+    alloc: Global,
+    core: &mut Core<L>,
+    newest: &mut Vec<TaskNo>,
+) -> Result<(), Memory>
+    requires waiting { IsWaiting L.meanings core.old }
+    requires ready { (task : ℕ) × IsRunnable (state L.meanings core.old).graph task }
+    ensures waiting { IsWaiting L.meanings core.new }
+    ensures seen { seen_of L.meanings core.new ≡ seen_of L.meanings core.old }
+    ensures less { OnOk result (left L.meanings core.new + 1 ≡ left L.meanings core.old) }
+{
+    match begin(core, newest) {
+        Ok(started) => match execute(alloc, core, started) {
+            Ok(ready) => {
+                let _ = newest.extend_from_slice(ready.as_slice());
+                Ok(())
+            }
+            Err(memory) => Err(memory),
+        },
+        Err(memory) => Err(memory),
+    }
+}
+
+// Begins the newest task that is known to be ready, or else the least of all that are.
+fn begin<L: Library>(core: &mut Core<L>, newest: &mut Vec<TaskNo>) -> Result<Started<L>, Memory>
+    requires waiting { IsWaiting L.meanings core.old }
+    requires ready { (task : ℕ) × IsRunnable (state L.meanings core.old).graph task }
+    ensures { IsBegun L.meanings core.old core.new result }
+{
+    match begin_newest(core, newest) {
+        Ok(Some(started)) => Ok(started),
+        Ok(None) => begin_least(core),
+        Err(memory) => Err(memory),
+    }
+}
+
+// Begins the newest task that is known to be ready; `None` where it is not ready any more, or none is known.
+fn begin_newest<L: Library>(
+    core: &mut Core<L>,
+    newest: &mut Vec<TaskNo>,
+) -> Result<Option<Started<L>>, Memory>
+    requires { IsWaiting L.meanings core.old }
+    ensures { IsTried L.meanings core.old core.new result }
+{
+    match newest.pop() {
+        None => Ok(None),
+        Some(task) => match core.start(0, task) {
+            Start::Started(started) => Ok(Some(started)),
+            Start::Memory => Err(Memory),
+            Start::NotReady(_) => Ok(None),
+        },
+    }
+}
+
+// Begins the least task that is ready.
+fn begin_least<L: Library>(core: &mut Core<L>) -> Result<Started<L>, Memory>
+    requires waiting { IsWaiting L.meanings core.old }
+    requires ready { (task : ℕ) × IsRunnable (state L.meanings core.old).graph task }
+    ensures { IsBegun L.meanings core.old core.new result }
+{
+    match core.idle() {
+        Idle::Run(task) => match core.start(0, task) {
+            Start::Started(started) => Ok(started),
+            Start::Memory => Err(Memory),
+            Start::NotReady(_) => unreachable!(),
+        },
+        Idle::End => unreachable!(),
+        Idle::Later => unreachable!(),
+    }
+}
+
+// Executes the task that the worker began, and finishes it. Answers the tasks that became ready. For want of memory it is given back.
+fn execute<L: Library>(
+    alloc: Global,
+    core: &mut Core<L>,
+    started: Started<L>,
+) -> Result<List<TaskNo>, Memory>
+    requires { Executes L.meanings core.old started }
+    ensures waiting { IsWaiting L.meanings core.new }
+    ensures seen { seen_of L.meanings core.new ≡ seen_of L.meanings core.old }
+    ensures less { OnOk result (left L.meanings core.new + 1 ≡ left L.meanings core.old) }
+{
+    core.stands();
+    match outcome_of(alloc, started) {
+        Ok(outcome) => match core.finish(0, outcome) {
+            Ok(ready) => Ok(ready),
+            Err(memory) => {
+                core.give_back(0);
+                Err(memory)
+            }
+        },
+        Err(memory) => {
+            core.give_back(0);
+            Err(memory)
+        }
+    }
+}
+
+// The outcome of a task that a worker began.
+fn outcome_of<L: Library>(
+    alloc: Global,
+    started: Started<L>,
+) -> Result<Outcome<L::Chunk, L::Kind>, Memory>
+    requires own { AreOwn started.inputs }
+    requires goal { HasGoal L.meanings started.kind (inputs_granted started.inputs) }
+    ensures { IfOk result (IsSoundFor L.Chunk.arity L.meanings started.kind (inputs_granted started.inputs)) }
+{
+    let kind = started.kind;
+    let inputs = started.inputs.into_inputs();
+    L::run(alloc, kind, &inputs)
+}
