@@ -16,7 +16,8 @@ use Rattle.task_states.specs.States.{Unfinished, is_awaiting}
 use Rattle.cht_ids.specs.declared.refs.Ref.{Ref}
 use Rattle.task_states.proofs.Maps.{test_same, test_apart}
 use Rattle.task_graph.specs.declared.callers.Caller.{Caller}
-use Rattle.task_graph.specs.declared.entries.Entry.{Entry}
+use Rattle.task_graph.specs.declared.kept.Kept.{Kept}
+use Rattle.task_graph.specs.Kept.{opened}
 use Rattle.task_graph.specs.declared.entries.Place.{Place}
 use Rattle.task_graph.specs.Inside.{shown_entry, shown_place}
 use Rattle.task_graph.specs.Graphs.{tasks_of, stopped_from}
@@ -26,33 +27,34 @@ map_cond f true x y = refl
 map_cond f false x y = refl
 
 module _ {K : Type 0} where
-  find-shown : (es : List (ℕ × Entry K)) (q : ℕ) → map.find nat_cmp q (each (λ e. (e.0, shown_entry e.1)) es) ≡ option_map shown_entry (lookup (nat_eq q) es)
+  find-shown : (es : List (ℕ × Kept K)) (q : ℕ) → map.find nat_cmp q (each (λ e. (e.0, shown_entry (opened e.1))) es) ≡ option_map shown_entry (option_map opened (lookup (nat_eq q) es))
   find-shown [] q = refl
   find-shown (e ∷ es) q =
-      ap (λ b. cond b (Some (shown_entry e.1)) (map.find nat_cmp q (each (λ x. (x.0, shown_entry x.1)) es))) (unsigned_tied q e.0)
-      ∙ ap (cond (nat_eq q e.0) (Some (shown_entry e.1))) (find-shown es q)
-      ∙ map_cond shown_entry (nat_eq q e.0) (Some e.1) (lookup (nat_eq q) es)
+      ap (λ b. cond b (Some (shown_entry (opened e.1))) (map.find nat_cmp q (each (λ x. (x.0, shown_entry (opened x.1))) es))) (unsigned_tied q e.0)
+      ∙ ap (cond (nat_eq q e.0) (Some (shown_entry (opened e.1)))) (find-shown es q)
+      ∙ map_cond shown_entry (nat_eq q e.0) (Some (opened e.1)) (option_map opened (lookup (nat_eq q) es))
+      ∙ ap (option_map shown_entry) (map_cond opened (nat_eq q e.0) (Some e.1) (lookup (nat_eq q) es))
 
   -- the task with a number
-  pub get-tasks_of : (es : List (ℕ × Entry K)) (q : ℕ) → map.get (tasks_of es) q ≡ option_map shown_entry (lookup (nat_eq q) es)
+  pub get-tasks_of : (es : List (ℕ × Kept K)) (q : ℕ) → map.get (tasks_of es) q ≡ option_map shown_entry (option_map opened (lookup (nat_eq q) es))
   unfolding tasks_of
-  get-tasks_of es q = map.get-from_entries nat_cmp_total (each (λ e. (e.0, shown_entry e.1)) es) q ∙ find-shown es q
+  get-tasks_of es q = map.get-from_entries nat_cmp_total (each (λ e. (e.0, shown_entry (opened e.1))) es) q ∙ find-shown es q
 
-  len-shown : (es : List (ℕ × Entry K)) → IsDistinct nat_eq (keys_of es) → map.len (map.from_entries {R = nat_cmp} (each (λ e. (e.0, shown_entry e.1)) es)) ≡ length es
+  len-shown : (es : List (ℕ × Kept K)) → IsDistinct nat_eq (keys_of es) → map.len (map.from_entries {R = nat_cmp} (each (λ e. (e.0, shown_entry (opened e.1))) es)) ≡ length es
   len-shown [] distinct = map.len-empty nat_cmp (Unfinished Ref K)
   len-shown (e ∷ es) distinct =
-      let rest : map.FinMap nat_cmp (Unfinished Ref K) = map.from_entries (each (λ x. (x.0, shown_entry x.1)) es) in
+      let rest : map.FinMap nat_cmp (Unfinished Ref K) = map.from_entries (each (λ x. (x.0, shown_entry (opened x.1))) es) in
       let absent : map.get rest e.0 ≡ None =
-      map.get-from_entries nat_cmp_total (each (λ x. (x.0, shown_entry x.1)) es) e.0
+      map.get-from_entries nat_cmp_total (each (λ x. (x.0, shown_entry (opened x.1))) es) e.0
       ∙ find-shown es e.0
-      ∙ ap (option_map shown_entry) (lookup-none (nat_eq e.0) es (none_past_head nat_eq_equiv e.0 e es distinct (grind (arith, nat_tests)))) in
-      let one_more : map.len (map.insert rest e.0 (shown_entry e.1)) ≡ map.len rest + 1 =
-      map.len-insert nat_cmp_total rest e.0 (shown_entry e.1)
+      ∙ ap (λ o. option_map shown_entry (option_map opened o)) (lookup-none (nat_eq e.0) es (none_past_head nat_eq_equiv e.0 e es distinct (grind (arith, nat_tests)))) in
+      let one_more : map.len (map.insert rest e.0 (shown_entry (opened e.1))) ≡ map.len rest + 1 =
+      map.len-insert nat_cmp_total rest e.0 (shown_entry (opened e.1))
       ∙ ap (λ o. cond (is_some o) (map.len rest) (map.len rest + 1)) absent in
       omega (arith, one_more, len-shown es (IsDistinct-tail nat_eq e.0 (keys_of es) distinct))
 
   -- as many as the entries
-  pub len-tasks_of : (es : List (ℕ × Entry K)) → IsDistinct nat_eq (keys_of es) → map.len (tasks_of es) ≡ length es
+  pub len-tasks_of : (es : List (ℕ × Kept K)) → IsDistinct nat_eq (keys_of es) → map.len (tasks_of es) ≡ length es
   unfolding tasks_of
   len-tasks_of es distinct = len-shown es distinct
 

@@ -9,6 +9,7 @@ use Rattle.task_graph.specs.declared.entries.Entries.{Entries}
 use Rattle.task_graph.specs.declared.entries.Entry.{Entry}
 use Rattle.task_graph.specs.declared.entries.Place.{Place}
 use Rattle.task_graph.specs.declared.entries.Spot.{Spot}
+use Rattle.task_graph.specs.Kept.{opened}
 use Rattle.task_graph.specs.declared.entries.Place.TheVariants.{Known, Awaits}
 
 -- values by number with one more, or with another under its number
@@ -33,7 +34,7 @@ pub record Station : Type 0 where
 module _ {K : Type 0} where
   -- the entry of a task
   abbrev pub entries_at : Entries K → ℕ → Option (Entry K)
-  entries_at entries task = lookup (nat_eq task) entries.tasks.entries
+  entries_at entries task = option_map opened (lookup (nat_eq task) entries.tasks.entries)
 
   -- the inputs of a task
   abbrev pub inputs_of : Entry K → List Place

@@ -4,6 +4,7 @@ pub mod Contents
 pub mod Counted
 pub mod Graphs
 pub mod Inside
+pub mod Kept
 pub mod Moving
 pub mod Order
 pub mod Queue

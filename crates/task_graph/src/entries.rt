@@ -9,6 +9,7 @@ ghost use Rattle.task_graph.specs.Inside.{entries_at, put_in, room_of, IsSameSiz
 ghost use Rattle.task_graph.specs.Weave.{head_at, link_at, with_next, with_ends, IsBeside, count_of};
 ghost use Rattle.task_graph.specs.Order.{with_after_at, with_before_at};
 
+use crate::kept::Kept;
 use cht_ids::Ref;
 use std::collections::HashMap;
 use task_states::TaskStatus;
@@ -51,10 +52,10 @@ pub(crate) struct Entry<K> {
     pub after: Option<u128>,
 }
 
-// All tasks by number.
+// All tasks by number, as they are kept.
 #[derive(Drop)]
 pub(crate) struct Entries<K> {
-    pub tasks: HashMap<u128, Entry<K>>,
+    pub tasks: HashMap<u128, Kept<K>>,
 }
 
 impl<K: Copy> Entries<K> {
@@ -63,7 +64,8 @@ impl<K: Copy> Entries<K> {
         requires { IsSome (entries_at self.now task) }
         ensures { entries_at self.now task ≡ Some result }
     {
-        *self.tasks.get(&task).unwrap()
+        let kept = self.tasks.get(&task).unwrap();
+        kept.open()
     }
 
     /// Writes the entry of a task.
@@ -73,7 +75,7 @@ impl<K: Copy> Entries<K> {
         ensures size { IsSameSize self.old self.new }
     {
         if let Some(place) = self.tasks.get_mut(&task) {
-            *place = entry;
+            *place = Kept::of(&entry);
         }
     }
 
@@ -205,7 +207,7 @@ impl<K: Copy> Entries<K> {
         ensures len { hash_map_len self.new.tasks ≡ hash_map_len self.old.tasks + 1 }
         ensures room { room_of self.old ≤ room_of self.new + 1 }
     {
-        let reserved: Result<_, _> = self.tasks.insert(task, entry);
+        let reserved: Result<_, _> = self.tasks.insert(task, Kept::of(&entry));
         reserved.unwrap();
     }
 
@@ -217,7 +219,8 @@ impl<K: Copy> Entries<K> {
         ensures len { hash_map_len self.new.tasks + 1 ≡ hash_map_len self.old.tasks }
         ensures room { room_of self.old ≤ room_of self.new }
     {
-        self.tasks.remove(&task).unwrap()
+        let kept = self.tasks.remove(&task).unwrap();
+        kept.open()
     }
 }
 
@@ -269,6 +272,9 @@ impl<K: Copy> Entries<K> {
     pub fn find(&self, task: u128) -> Option<Entry<K>>
         ensures { result ≡ entries_at self.now task }
     {
-        self.tasks.get(&task).copied()
+        match self.tasks.get(&task) {
+            None => None,
+            Some(kept) => Some(kept.open()),
+        }
     }
 }

@@ -57,8 +57,8 @@ fn refill<K: Copy>(entries: &Entries<K>, ready: &mut Queue)
     ensures capacity { queue_capacity ready.old ≤ queue_capacity ready.new }
 {
     ready.clear();
-    for (number, entry) in entries.tasks.iter() {
-        offer(ready, *number, entry);
+    for (number, kept) in entries.tasks.iter() {
+        offer(ready, *number, &kept.open());
     }
 }
 

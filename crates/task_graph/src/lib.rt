@@ -7,6 +7,7 @@ mod awaiters;
 mod callers;
 mod entries;
 mod held;
+mod kept;
 mod outputs;
 mod parts;
 mod queue;
