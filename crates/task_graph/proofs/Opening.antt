@@ -13,20 +13,20 @@ use Rattle.task_states.specs.States.{Unfinished, no_tasks, task_at, is_run_for}
 use Rattle.task_states.specs.Awaiters.{IsRunnable}
 use Rattle.task_states.proofs.Maps.{len-kept}
 use Rattle.task_states.proofs.Options.{not_none, same_some, map_behind}
-use Rattle.task_graph.specs.declared.callers.Caller.{Caller}
-use Rattle.task_graph.specs.declared.entries.Spot.{Spot}
+use Rattle.task_links.specs.declared.callers.Caller.{Caller}
+use Rattle.task_links.specs.declared.entries.Spot.{Spot}
 use Rattle.task_graph.specs.declared.held.Held.{Held}
 use Rattle.task_graph.specs.declared.parts.Parts.{Parts}
-use Rattle.task_graph.specs.declared.kept.Kept.{Kept}
-use Rattle.task_graph.specs.Kept.{opened}
-use Rattle.task_graph.specs.Inside.{entries_at, place_in, station_at, station_of}
-use Rattle.task_graph.specs.Callers.{caller_at, bounds_at, bounds_of}
-use Rattle.task_graph.specs.Weave.{Head, Leads, head_at, head_of, link_at, link_of}
-use Rattle.task_graph.specs.Order.{Bounds, row_at, IsTail}
+use Rattle.task_links.specs.declared.kept.Kept.{Kept}
+use Rattle.task_links.specs.Kept.{opened}
+use Rattle.task_links.specs.Inside.{entries_at, place_in, station_at, station_of}
+use Rattle.task_links.specs.Callers.{caller_at, bounds_at, bounds_of}
+use Rattle.task_links.specs.Weave.{Head, Leads, head_at, head_of, link_at, link_of}
+use Rattle.task_links.specs.Order.{Bounds, row_at, IsTail}
 use Rattle.std.specs.Map.{lookup}
 use Rattle.task_graph.specs.Graphs.{tasks_of, graph_of, stopped_from, IsWhole, IsHeld}
-use Rattle.task_graph.specs.Queue.{is_queued, IsQueue}
-use Rattle.task_graph.proofs.Orders.{station_of_row}
+use Rattle.task_links.specs.Queue.{is_queued, IsQueue}
+use Rattle.task_links.proofs.Orders.{station_of_row}
 use Rattle.task_graph.proofs.Views.{has-stopped, flag}
 
 abbrev no_row : Caller

@@ -10,11 +10,11 @@ use Rattle.std.proofs.lemmas.Map.Entries.{place_from_lookup, lookup_from_place}
 use Rattle.task_states.specs.declared.states.TaskStatus.TheVariants.{Ready}
 use Rattle.task_states.specs.States.{status_of}
 use Rattle.task_states.proofs.Options.{not_none, same_some}
-use Rattle.task_graph.specs.declared.kept.Kept.{Kept}
-use Rattle.task_graph.specs.Kept.{opened}
-use Rattle.task_graph.specs.declared.queue.Queue.{Queue}
-use Rattle.task_graph.specs.Inside.{shown_entry}
-use Rattle.task_graph.specs.Queue.{is_queued, queue_len}
+use Rattle.task_links.specs.declared.kept.Kept.{Kept}
+use Rattle.task_links.specs.Kept.{opened}
+use Rattle.task_links.specs.declared.queue.Queue.{Queue}
+use Rattle.task_links.specs.Inside.{shown_entry}
+use Rattle.task_links.specs.Queue.{is_queued, queue_len}
 use Rattle.task_graph.specs.Graphs.{IsRefilled}
 
 get_past : {X : Type 0} (front : List X) (x : X) (rest : List X) → slice_get (front ++ x ∷ rest) (length front) ≡ Some x

@@ -2,7 +2,7 @@
 use Rattle.std.proofs.Common.{◌≡◌, ℕ, suc, zero, ◌+◌, ◌<◌, Bool, true, false, cond, ◌||◌, List, [], ◌∷◌, length, Option, Some, None, is_some, nat_eq, refl, ap, ◌∙◌, arith}
 use Rattle.std.specs.Prelude.{map as each, slice_get}
 use Rattle.std.specs.Option.{option_map}
-use Rattle.std.specs.List.{IsDistinct, list_any}
+use Rattle.std.specs.List.{IsDistinct}
 use Rattle.std.specs.Map.{lookup, keys_of}
 use Rattle.std.specs.Ordering.{nat_cmp}
 use Rattle.std.specs.Cmp.{nat_cmp_total, nat_eq_equiv, unsigned_tied}
@@ -12,14 +12,13 @@ use Rattle.std.proofs.lemmas.Bool.Decides.{nat_tests}
 use Rattle.std.proofs.lemmas.Map.{lookup-none}
 use Rattle.std.proofs.lemmas.Map.Keys.{IsDistinct-tail}
 use Rattle.std.proofs.lemmas.Map.Entries.{none_past_head}
-use Rattle.task_states.specs.States.{Unfinished, is_awaiting}
+use Rattle.task_states.specs.States.{Unfinished}
 use Rattle.cht_ids.specs.declared.refs.Ref.{Ref}
 use Rattle.task_states.proofs.Maps.{test_same, test_apart}
-use Rattle.task_graph.specs.declared.callers.Caller.{Caller}
-use Rattle.task_graph.specs.declared.kept.Kept.{Kept}
-use Rattle.task_graph.specs.Kept.{opened}
-use Rattle.task_graph.specs.declared.entries.Place.{Place}
-use Rattle.task_graph.specs.Inside.{shown_entry, shown_place}
+use Rattle.task_links.specs.declared.callers.Caller.{Caller}
+use Rattle.task_links.specs.declared.kept.Kept.{Kept}
+use Rattle.task_links.specs.Kept.{opened}
+use Rattle.task_links.specs.Inside.{shown_entry}
 use Rattle.task_graph.specs.Graphs.{tasks_of, stopped_from}
 
 map_cond : {A B : Type 0} (f : A → B) (b : Bool) (x y : Option A) → cond b (option_map f x) (option_map f y) ≡ option_map f (cond b x y)
@@ -97,7 +96,3 @@ has-from first (row ∷ rows) (suc i) q at =
 -- which callers are stopped
 pub has-stopped : (rows : List Caller) (q : ℕ) → has (stopped_from 0 rows) q ≡ flag (slice_get rows q)
 has-stopped rows q = has-from 0 rows q q (omega arith)
-
-pub any_shown : (places : List Place) → list_any (λ place. is_awaiting (shown_place place)) places ≡ list_any is_awaiting (each shown_place places)
-any_shown [] = refl
-any_shown (place ∷ places) = ap (λ b. is_awaiting (shown_place place) || b) (any_shown places)

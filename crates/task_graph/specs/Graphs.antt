@@ -7,20 +7,20 @@ use Rattle.std.specs.FinSet as numbers
 use Rattle.cht_ids.specs.declared.refs.Ref.{Ref}
 use Rattle.task_states.specs.States.{Unfinished, Graph, running, is_run_for, status_of}
 use Rattle.task_states.specs.Awaiters.{IsRunnable}
-use Rattle.task_graph.specs.declared.callers.Caller.{Caller}
-use Rattle.task_graph.specs.declared.entries.Entry.{Entry}
-use Rattle.task_graph.specs.declared.entries.Link.{Link}
-use Rattle.task_graph.specs.declared.entries.Spot.{Spot}
+use Rattle.task_links.specs.declared.callers.Caller.{Caller}
+use Rattle.task_links.specs.declared.entries.Entry.{Entry}
+use Rattle.task_links.specs.declared.entries.Link.{Link}
+use Rattle.task_links.specs.declared.entries.Spot.{Spot}
 use Rattle.task_graph.specs.declared.parts.Parts.{Parts}
 use Rattle.task_graph.specs.declared.held.Held.{Held}
-use Rattle.task_graph.specs.declared.kept.Kept.{Kept}
-use Rattle.task_graph.specs.Kept.{opened}
-use Rattle.task_graph.specs.Inside.{shown_entry, place_in, entries_at, station_at, room_of}
-use Rattle.task_graph.specs.Weave.{head_at, link_at, link_of, IsWoven, IsUnused}
-use Rattle.task_graph.specs.Callers.{caller_at, bounds_at}
-use Rattle.task_graph.specs.Order.{IsOrdered}
-use Rattle.task_graph.specs.declared.queue.Queue.{Queue}
-use Rattle.task_graph.specs.Queue.{is_queued, IsQueue, IsQueueLeast, queue_capacity, queue_len}
+use Rattle.task_links.specs.declared.kept.Kept.{Kept}
+use Rattle.task_links.specs.Kept.{opened}
+use Rattle.task_links.specs.Inside.{shown_entry, place_in, entries_at, station_at, room_of}
+use Rattle.task_links.specs.Weave.{head_at, link_at, link_of, IsWoven, IsUnused}
+use Rattle.task_links.specs.Callers.{caller_at, bounds_at}
+use Rattle.task_links.specs.Order.{IsOrdered}
+use Rattle.task_links.specs.declared.queue.Queue.{Queue}
+use Rattle.task_links.specs.Queue.{is_queued, IsQueue, IsQueueLeast, queue_capacity, queue_len}
 use Rattle.task_states.specs.declared.states.TaskStatus.TheVariants.{Ready}
 
 -- the stopped callers of rows, which count from a number

@@ -1,24 +1,22 @@
 // The fields behind `Tasks`, and its steps.
 ghost use Rattle.std.specs.Prelude.{◌≡◌, ◌+◌, ◌<◌, ◌≤◌, ℕ, Some, None, OnOk, IsOk, IsSome, true, length};
 ghost use Rattle.task_graph.specs.Graphs.{graph_of, IsWhole, AreQueued, AreQueuedBut, HasRoom, IsHeld};
-ghost use Rattle.task_graph.specs.Queue.{is_queued, IsQueue, queue_len, queue_capacity};
+ghost use Rattle.task_links.specs.Queue.{is_queued, IsQueue, queue_len, queue_capacity};
 ghost use Rattle.task_states.specs.declared.states.TaskStatus.TheVariants.{Ready, Running};
 ghost use Rattle.std.specs.HashMap.{hash_map_len};
-ghost use Rattle.task_graph.specs.declared.entries.Entry.{Entry as AnyEntry};
-ghost use Rattle.task_graph.specs.Inside.{shown_entry, entries_at};
+ghost use Rattle.task_links.specs.declared.entries.Entry.{Entry as AnyEntry};
+ghost use Rattle.task_links.specs.Inside.{shown_entry, entries_at};
 ghost use Rattle.task_states.specs.States.{no_tasks, status_of, status, task_at, AwaitsNothing};
 ghost use Rattle.task_states.specs.Awaiters.{IsFree, IsNotAwaited, IsLeastAwaiter};
 ghost use Rattle.task_states.specs.Steps.{added, with_asked, started, given_back, delivered, forwarded, removed, with_stopped, abandoned};
 ghost use Rattle.task_states.specs.declared.states.Awaiter.{Awaiter as AnyAwaiter};
 ghost use Rattle.task_graph.specs.Contents.{inputs_given, AreOf, AreFree, AreOfOneCaller, IsAskedOnce};
 
-use crate::callers::Callers;
-use crate::entries::{Entries, Entry};
 use crate::parts::Parts;
-use crate::queue::Queue;
 use cht_ids::{Memory, Ref};
 use std::alloc::Global;
 use std::collections::HashMap;
+use task_links::{Callers, Entries, Entry, Queue};
 use task_states::{Slot, TaskStatus};
 
 // The tasks, the numbers of those that can be run with others among them, and how many tasks can be added without memory.

@@ -3,9 +3,9 @@ use Rattle.std.specs.Map.{lookup}
 use Rattle.std.specs.Option.{option_map}
 use Rattle.task_states.specs.States.{status_of}
 use Rattle.task_states.proofs.Options.{map_behind}
-use Rattle.task_graph.specs.declared.entries.Entry.{Entry}
-use Rattle.task_graph.specs.Inside.{shown_entry}
-use Rattle.task_graph.specs.Kept.{opened}
+use Rattle.task_links.specs.declared.entries.Entry.{Entry}
+use Rattle.task_links.specs.Inside.{shown_entry}
+use Rattle.task_links.specs.Kept.{opened}
 use Rattle.task_graph.proofs.Refilling.{refill_start, refill_room, refill_at, refill_step, refill_end}
 use Rattle.task_graph.proofs.held.refill.Goals as goal
 

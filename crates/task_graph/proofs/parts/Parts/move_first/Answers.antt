@@ -2,7 +2,7 @@ use Rattle.std.proofs.Common.{ℕ, ap, sym, ◌∙◌, refl}
 use Rattle.std.specs.Option.{option_map}
 use Rattle.task_states.specs.States.{Known, Awaits}
 use Rattle.cht_ids.specs.declared.refs.Ref.TheVariants.{Null}
-use Rattle.task_graph.specs.declared.entries.Link.{Link}
+use Rattle.task_links.specs.declared.entries.Link.{Link}
 use Rattle.task_graph.specs.Graphs.{graph_of}
 use Rattle.task_graph.proofs.Moves.{written_twice}
 use Rattle.task_graph.proofs.parts.Parts.move_first.Goals as goal

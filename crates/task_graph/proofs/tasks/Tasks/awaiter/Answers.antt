@@ -2,7 +2,7 @@ use Rattle.std.proofs.Common.{sym, ◌∙◌}
 use Rattle.task_states.specs.States.{task_at}
 use Rattle.task_graph.specs.Graphs.{graph_of}
 use Rattle.task_graph.proofs.Strangers.{strange}
-use Rattle.task_graph.proofs.Walking.{some_is}
+use Rattle.task_links.proofs.Walking.{some_is}
 use Rattle.task_graph.proofs.Runs.{task_there}
 use Rattle.task_graph.proofs.tasks.Tasks.awaiter.Goals as goal
 
