@@ -73,9 +73,9 @@ impl<K: Copy> Parts<K> {
         requires caller { caller < 64 }
         ensures { IsLeastOf (IsLater (graph_of self.now) caller after) result }
     {
-        if let Some(entry) = self.entries.find(after) {
-            if entry.caller == caller {
-                return entry.after;
+        if let Some(kept) = self.entries.find(after) {
+            if kept.caller == caller {
+                return kept.follower();
             }
         }
         let row = self.callers.get(caller);

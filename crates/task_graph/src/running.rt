@@ -24,7 +24,7 @@ impl<K: Copy> Parts<K> {
     {
         match self.entries.find(task) {
             None => TaskStatus::Unknown,
-            Some(entry) => entry.status(),
+            Some(kept) => kept.status(),
         }
     }
 
@@ -35,9 +35,9 @@ impl<K: Copy> Parts<K> {
     {
         match self.entries.find(task) {
             None => false,
-            Some(entry) => {
-                let row = self.callers.get(entry.caller);
-                match entry.status() {
+            Some(kept) => {
+                let row = self.callers.get(kept.caller);
+                match kept.status() {
                     TaskStatus::Unknown => false,
                     TaskStatus::Waiting => false,
                     TaskStatus::Ready => !row.stopped,

@@ -13,7 +13,6 @@ ghost use Rattle.task_links.specs.Order.{with_after_at, with_before_at};
 use crate::kept::{Kept, kept_ends, kept_place, place, split_if};
 use cht_ids::Ref;
 use std::collections::HashMap;
-use task_states::TaskStatus;
 
 /// A place of an input of a task.
 #[derive(Clone, Copy)]
@@ -255,34 +254,7 @@ impl<K: Copy> Entries<K> {
     }
 }
 
-impl Place {
-    // Whether the input awaits a task.
-    fn is_awaiting(&self) -> bool
-        ensures { result ≡ is_awaiting (shown_place self.now) }
-    {
-        match self {
-            Place::Known(_) => false,
-            Place::Awaits(_) => true,
-        }
-    }
-}
-
-// Whether one of these inputs awaits a task.
-fn any_awaits(places: &[Place]) -> bool
-    ensures { result ≡ list_any (λ place. is_awaiting (shown_place place)) places.now }
-{
-    places.iter().any(|place| place.is_awaiting())
-}
-
 impl<K: Copy> Entry<K> {
-    /// Whether an input awaits a task.
-    pub fn is_waiting(&self) -> bool
-        requires { self.now.count ≤ 4 }
-        ensures { result ≡ list_any is_awaiting (shown_entry self.now).inputs }
-    {
-        any_awaits(&self.places[..self.count as usize])
-    }
-
     /// The input at a place, counted from 0, if there is one.
     pub fn input(&self, place: u32) -> Option<Place>
         requires { self.now.count ≤ 4 }
@@ -295,30 +267,13 @@ impl<K: Copy> Entry<K> {
             None
         }
     }
-
-    /// How far the task is.
-    pub fn status(&self) -> TaskStatus
-        requires { self.now.count ≤ 4 }
-        ensures { result ≡ status_of (shown_entry self.now) }
-    {
-        if self.is_waiting() {
-            TaskStatus::Waiting
-        } else if self.runner.is_some() {
-            TaskStatus::Running
-        } else {
-            TaskStatus::Ready
-        }
-    }
 }
 
 impl<K: Copy> Entries<K> {
-    /// The entry of a task, if there is one.
-    pub fn find(&self, task: u128) -> Option<Entry<K>>
-        ensures { result ≡ entries_at self.now task }
+    /// What is kept of a task, if there is one.
+    pub fn find(&self, task: u128) -> Option<Kept<K>>
+        ensures { option_map opened result ≡ entries_at self.now task }
     {
-        match self.tasks.get(&task) {
-            None => None,
-            Some(kept) => Some(kept.open()),
-        }
+        self.tasks.get(&task).copied()
     }
 }

@@ -1,11 +1,15 @@
 // Entries of tasks as they are kept: numbers in halves, so that nothing is aligned to 16 bytes, and few bytes for what may be
 // missing. Fields stand by falling alignment.
-ghost use Rattle.std.specs.Prelude.{◌≡◌, map as each};
+ghost use Rattle.std.specs.Prelude.{◌≡◌, ◌≤◌, map as each};
 ghost use Rattle.task_links.specs.declared.entries.Place.TheVariants.{Awaits};
+ghost use Rattle.std.specs.List.{list_any};
+ghost use Rattle.task_states.specs.States.{is_awaiting, status_of};
+ghost use Rattle.task_links.specs.Inside.{shown_place, shown_entry};
 ghost use Rattle.task_links.specs.Kept.{joined, joined_if, opened_place, first_in, last_in, opened};
 
 use crate::entries::{Entry, Link, Place, Spot};
 use cht_ids::{Id, Ref};
+use task_states::TaskStatus;
 
 /// A number of 128 bits: 2^64 times the high half, and the low one.
 #[derive(Clone, Copy)]
@@ -221,7 +225,57 @@ fn places(kept: &[KeptPlace; 4]) -> [Place; 4]
     ]
 }
 
+impl KeptPlace {
+    // Whether the input awaits a task.
+    fn is_awaiting(&self) -> bool
+        ensures { result ≡ is_awaiting (shown_place (opened_place self.now)) }
+    {
+        match self {
+            KeptPlace::Null => false,
+            KeptPlace::Refers(_, _) => false,
+            KeptPlace::Last(_, _) => true,
+            KeptPlace::Linked(_, _, _, _) => true,
+        }
+    }
+}
+
+// Whether one of these inputs awaits a task.
+fn any_awaits(places: &[KeptPlace]) -> bool
+    ensures { result ≡ list_any (λ place. is_awaiting (shown_place (opened_place place))) places.now }
+{
+    places.iter().any(|place| place.is_awaiting())
+}
+
 impl<K: Copy> Kept<K> {
+    /// Whether an input awaits a task.
+    pub fn is_waiting(&self) -> bool
+        requires { self.now.count ≤ 4 }
+        ensures { result ≡ list_any is_awaiting (shown_entry (opened self.now)).inputs }
+    {
+        any_awaits(&self.places[..self.count as usize])
+    }
+
+    /// How far the task is.
+    pub fn status(&self) -> TaskStatus
+        requires { self.now.count ≤ 4 }
+        ensures { result ≡ status_of (shown_entry (opened self.now)) }
+    {
+        if self.is_waiting() {
+            TaskStatus::Waiting
+        } else if self.runner.is_some() {
+            TaskStatus::Running
+        } else {
+            TaskStatus::Ready
+        }
+    }
+
+    /// The task that follows among those of the caller, if there is one.
+    pub fn follower(&self) -> Option<u128>
+        ensures { result ≡ (opened self.now).after }
+    {
+        whole_if(self.after, self.has_after)
+    }
+
     /// An entry as it is kept.
     pub fn of(entry: &Entry<K>) -> Kept<K>
         ensures { opened result ≡ entry.now }

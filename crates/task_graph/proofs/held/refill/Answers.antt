@@ -1,9 +1,8 @@
-use Rattle.std.proofs.Common.{◌∙◌, ◌≤◌, nat_eq, ap, sym, subst, arith}
+use Rattle.std.proofs.Common.{◌∙◌, nat_eq, ap, arith}
 use Rattle.std.specs.Map.{lookup}
 use Rattle.std.specs.Option.{option_map}
 use Rattle.task_states.specs.States.{status_of}
 use Rattle.task_states.proofs.Options.{map_behind}
-use Rattle.task_links.specs.declared.entries.Entry.{Entry}
 use Rattle.task_links.specs.Inside.{shown_entry}
 use Rattle.task_links.specs.Kept.{opened}
 use Rattle.task_graph.proofs.Refilling.{refill_start, refill_room, refill_at, refill_step, refill_end}
@@ -18,8 +17,8 @@ loop-number-init g c = (
 
 pub offer-requires-clause-short : goal.offer-requires-clause-short
 offer-requires-clause-short g c =
-    subst (λ (e : Entry _). e.count ≤ 4) (sym c.open.ensures) (c.requires.short c.in-Some.number.now (opened c.in-Some.kept.now)
-    (ap (option_map opened) (refill_at c.args.entries.now.tasks.entries c.in-Some.number.now c.in-Some.kept.now c.loop-number.number-iterator c.next.new.self c.loop-number.ready c.in-Some.ensures.steps c.loop-number.invariant.2 c.iter-number-items.ensures.unique)))
+    c.requires.short c.in-Some.number.now (opened c.in-Some.kept.now)
+    (ap (option_map opened) (refill_at c.args.entries.now.tasks.entries c.in-Some.number.now c.in-Some.kept.now c.loop-number.number-iterator c.next.new.self c.loop-number.ready c.in-Some.ensures.steps c.loop-number.invariant.2 c.iter-number-items.ensures.unique))
 
 pub offer-requires-clause-room : goal.offer-requires-clause-room
 offer-requires-clause-room g c =
@@ -34,7 +33,7 @@ loop-number-preserved g c =
     let next = c.offer.ensures.capacity in (
       c.offer.ensures.queue,
       omega arith,
-      refill_step c.args.entries.now.tasks.entries c.in-Some.number.now c.in-Some.kept.now c.loop-number.number-iterator c.next.new.self c.loop-number.ready c.offer.new.ready c.in-Some.ensures.steps c.loop-number.invariant.2 (λ ready. c.offer.ensures.here (ap (λ e. status_of (shown_entry e)) c.open.ensures ∙ ready)) c.offer.ensures.rest c.offer.ensures.len,
+      refill_step c.args.entries.now.tasks.entries c.in-Some.number.now c.in-Some.kept.now c.loop-number.number-iterator c.next.new.self c.loop-number.ready c.offer.new.ready c.in-Some.ensures.steps c.loop-number.invariant.2 c.offer.ensures.here c.offer.ensures.rest c.offer.ensures.len,
     )
 
 pub returns-clause-queued : goal.returns-clause-queued
