@@ -1,0 +1,234 @@
+-- Trees of blocks and their parts, with the cells of each.
+use Rattle.std.proofs.Common.{◌≡◌, ℕ, zero, suc, ◌+◌, ◌-◌, ◌*◌, ◌^◌, ◌<◌, ◌≤◌, Bool, true, false, List, [], ◌∷◌, ◌++◌, Option, None, Some, ℤ, refl, sym, ap, ◌∙◌, subst, arith, pow-suc, zero-mul}
+use Rattle.std.proofs.Math.Pow.{pow_mono}
+use Rattle.std.proofs.lemmas.Bool.{true≢false}
+use Rattle.dense_def.specs.Matrix.{Matrix, height, joined}
+use Rattle.leaf_blocks.specs.Block.{IsBlock}
+use Rattle.task_types.specs.Tree.{Tree, Nothing, Root, child}
+use Rattle.name_machine.specs.Paths.{root_content, tree_below, content_at}
+use Rattle.mm_text.specs.declared.market.Cell.{Cell}
+use Rattle.mm_text.specs.Cells.{cells_of}
+use Rattle.chunk_codec.specs.Spots.{side_of}
+use Rattle.quad_matrix.specs.declared.chunk.MatChunk.{MatChunk}
+use Rattle.quad_matrix.specs.declared.chunk.MatChunk.TheVariants as chunk
+use Rattle.quad_matrix.specs.Blocks.{block_of, IsCanonical}
+use Rattle.quad_matrix.proofs.ForOthers.{side_low, side_twice, suc-sub_one, root_of_leaf, root_of_node, child_canonical, quadrants_canonical, block_of_quadrants}
+use Rattle.cht_session.specs.declared.corner.Corner.{Corner}
+use Rattle.cht_session.specs.SquareCells.{square_cells, beside}
+use Rattle.cht_session.specs.BlockTrees.{IsBlockTree, AreEntriesOf, IsPiece, IsNodePiece, AreCellsFor, AreCellsAt}
+use Rattle.cht_session.proofs.CellRows.{AreSquares}
+use Rattle.cht_session.proofs.SquareJoins.{square_of_zeros, square_of_joined, square_of_whole}
+
+-- one child number more
+pub below_more : {C : Type 0} (tree : Tree C) (path : List ℕ) (j : ℕ) → tree_below tree (path ++ j ∷ []) ≡ child (tree_below tree path) j
+below_more tree [] j = refl
+below_more tree (i ∷ path) j = below_more (child tree i) path j
+
+-- what was found at a path
+pub content_found : {C : Type 0} (tree : Tree C) (found content : Option C) (path given : List ℕ) → found ≡ content_at tree given → given ≡ path → found ≡ content
+    → content ≡ root_content (tree_below tree path)
+content_found tree found content path given at same is = sym is ∙ at ∙ ap (content_at tree) same
+
+-- ---- What a content says of a canonical tree
+
+-- whether a content is a leaf or a node
+abbrev pub is_leaf_or_node : MatChunk → Bool
+is_leaf_or_node (chunk.Leaf m) = true
+is_leaf_or_node (chunk.Node k peak) = true
+is_leaf_or_node (chunk.Entries entries) = false
+is_leaf_or_node (chunk.Num n) = false
+
+leaf_same : (m : Matrix) (c : MatChunk) (n : Matrix) → Some (chunk.Leaf m) ≡ Some c → c ≡ chunk.Leaf n → m ≡ n
+leaf_same m c n e f = cc
+
+node_same : (k peak : ℕ) (c : MatChunk) (h p : ℕ) → Some (chunk.Node k peak) ≡ Some c → c ≡ chunk.Node h p → h ≡ k
+node_same k peak c h p e f = cc
+
+leaf_is : (c d : MatChunk) (m : Matrix) → Some c ≡ Some d → d ≡ chunk.Leaf m → is_leaf_or_node c ≡ true
+leaf_is c d m e f = let g : c ≡ chunk.Leaf m = cc in ap is_leaf_or_node g
+
+node_is : (c d : MatChunk) (k peak : ℕ) → Some c ≡ Some d → d ≡ chunk.Node k peak → is_leaf_or_node c ≡ true
+node_is c d k peak e f = let g : c ≡ chunk.Node k peak = cc in ap is_leaf_or_node g
+
+-- a canonical tree of a block has no other content
+no_other : (b h : ℕ) (tree : Tree MatChunk) (c : MatChunk) → IsCanonical b h tree → Some c ≡ root_content tree → is_leaf_or_node c ≡ true
+no_other b h Nothing c is e = absurd cc
+no_other b zero (Root d x y z w) c is e = let root = root_of_leaf b d x y z w is in leaf_is c d _ e root.0
+no_other b (suc h) (Root d x y z w) c is e = let root = root_of_node b h d x y z w is in node_is c d _ _ e root
+
+-- what is known of a tree whose content is a leaf
+record IsLeafTree (b h : ℕ) (tree : Tree MatChunk) (m : Matrix) : Type 0 where
+  low : h ≡ 0
+  side : side_of b h ≡ height m
+  leaf : b ≡ height m
+  same : block_of b h tree ≡ m
+
+leaf_tree : (b h : ℕ) (tree : Tree MatChunk) (m : Matrix) → IsCanonical b h tree → Some (chunk.Leaf m) ≡ root_content tree → IsLeafTree b h tree m
+leaf_tree b h Nothing m is e = absurd cc
+leaf_tree b zero (Root c x y z w) m is e =
+    let root = root_of_leaf b c x y z w is in
+    let same : m ≡ block_of b 0 (Root c x y z w) = leaf_same m c (block_of b 0 (Root c x y z w)) e root.0 in
+    let tall : side_of b 0 ≡ height m = sym (ap height same ∙ is.sized.tall) in
+    record { low = refl; side = tall; leaf = sym (side_low b) ∙ tall; same = sym same }
+leaf_tree b (suc h) (Root c x y z w) m is e = absurd (let root = root_of_node b h c x y z w is in cc)
+
+-- the height that a node tells is that of its tree
+height_told : (b h : ℕ) (tree : Tree MatChunk) (k peak : ℕ) → IsCanonical b h tree → Some (chunk.Node k peak) ≡ root_content tree → (h ≡ k) × (1 ≤ h)
+height_told b h Nothing k peak is e = absurd cc
+height_told b zero (Root c x y z w) k peak is e = absurd (let root = root_of_leaf b c x y z w is in cc)
+height_told b (suc h) (Root c x y z w) k peak is e = (node_same k peak c (suc h) _ e (root_of_node b h c x y z w is), omega arith)
+
+-- ---- Nothing, and leaves
+
+-- where nothing is there are no cells
+pub nothing_there : (at : Corner) (tree : Tree MatChunk) (cells : List Cell) → cells ≡ [] → None ≡ root_content tree → AreCellsAt at tree cells
+nothing_there at Nothing cells none e h b is = none ∙ sym (square_of_zeros (side_of b h) (at.above * b) (at.left * b))
+nothing_there at (Root c x y z w) cells none e h b is = absurd cc
+
+-- no tree of a block is a list of entries or a number
+pub no_content : (depth : ℕ) (at : Corner) (tree : Tree MatChunk) (c : MatChunk) → IsPiece depth at tree → Some c ≡ root_content tree → is_leaf_or_node c ≡ false → ⊥
+no_content depth at tree c piece e other = true≢false (sym (no_other piece.leaf piece.height tree c piece.canonical e) ∙ other)
+
+-- a leaf is small, and begins within 2 ^ 16 leaf blocks
+pub leaf_within : (depth : ℕ) (at : Corner) (tree : Tree MatChunk) (m : Matrix) → IsPiece depth at tree → Some (chunk.Leaf m) ≡ root_content tree
+    → (height m ≤ 64) × (at.above < 2 ^ 16) × (at.left < 2 ^ 16)
+leaf_within depth at tree m piece e =
+    let leaf = leaf_tree piece.leaf piece.height tree m piece.canonical e in
+    let one : 2 ^ piece.height ≡ 1 = ap (λ h. 2 ^ h) leaf.low in
+    (omega (arith, piece.leaf_high, leaf.leaf), omega (arith, piece.above, one), omega (arith, piece.left, one))
+
+-- the cells of a leaf
+pub cells_of_leaf : (at : Corner) (tree : Tree MatChunk) (m : Matrix) (cells : List Cell) → Some (chunk.Leaf m) ≡ root_content tree
+    → cells ≡ square_cells (height m) m (at.above * height m) (at.left * height m) → AreCellsAt at tree cells
+cells_of_leaf at tree m cells e are h b is =
+    let leaf = leaf_tree b h tree m is e in
+    are
+    ∙ ap (λ s. square_cells s m (at.above * height m) (at.left * height m)) (sym leaf.side)
+    ∙ ap (λ n. square_cells (side_of b h) n (at.above * height m) (at.left * height m)) (sym leaf.same)
+    ∙ ap (λ s. square_cells (side_of b h) (block_of b h tree) (at.above * s) (at.left * s)) (sym leaf.leaf)
+
+-- ---- Nodes
+
+-- a node of a piece
+pub node_of_piece : (depth : ℕ) (at : Corner) (tree : Tree MatChunk) (k peak : ℕ) → IsPiece depth at tree → Some (chunk.Node k peak) ≡ root_content tree
+    → IsNodePiece depth k at tree
+node_of_piece depth at tree k peak piece e =
+    let told = height_told piece.leaf piece.height tree k peak piece.canonical e in
+    let P : ℕ → Type 0 = λ h. IsNodePiece depth h at tree in
+    subst P told.0
+    (record {
+      leaf = piece.leaf;
+      leaf_high = piece.leaf_high;
+      canonical = piece.canonical;
+      high = told.1;
+      deep = piece.deep;
+      above = piece.above;
+      left = piece.left;
+    })
+
+-- cells for the height that a node tells are cells for each height
+pub cells_for_each : (at : Corner) (tree : Tree MatChunk) (k peak : ℕ) (cells : List Cell) → Some (chunk.Node k peak) ≡ root_content tree → AreCellsFor k at tree cells
+    → AreCellsAt at tree cells
+cells_for_each at tree k peak cells e are h b is =
+    let same = (height_told b h tree k peak is e).0 in
+    let P : ℕ → Type 0 = λ h. cells ≡ square_cells (side_of b h) (block_of b h tree) (at.above * b) (at.left * b) in
+    let Q : ℕ → Type 0 = λ h. IsCanonical b h tree in
+    subst P (sym same) (are b (subst Q same is))
+
+-- a child of a node, where it begins no more than half a block away
+pub child_of_piece : (depth k half : ℕ) (at to : Corner) (tree : Tree MatChunk) (j : ℕ) → IsNodePiece depth k at tree → half ≡ 2 ^ (k - 1)
+    → to.above ≤ at.above + half → to.left ≤ at.left + half → IsPiece (depth + 1) to (child tree j)
+child_of_piece depth zero half at to tree j piece is down right = absurd (omega (arith, piece.high))
+child_of_piece depth (suc h) half at to tree j piece is down right =
+    let half_is : half ≡ 2 ^ h = is ∙ ap (λ k. 2 ^ k) (suc-sub_one h) in
+    let twice : 2 ^ suc h ≡ 2 ^ h + 2 ^ h = rw pow-suc (omega arith) in
+    record {
+      leaf = piece.leaf;
+      height = h;
+      leaf_high = piece.leaf_high;
+      canonical = child_canonical piece.leaf h tree piece.canonical j;
+      deep = omega (arith, piece.deep);
+      above = omega (arith, piece.above, half_is, twice, down);
+      left = omega (arith, piece.left, half_is, twice, right);
+    }
+
+distribute : (n p b : ℕ) → (n + p) * b ≡ n * b + b * p
+distribute n p b = omega arith
+
+are_squares : (b h : ℕ) (tree : Tree MatChunk) → IsCanonical b (suc h) tree
+    → AreSquares (side_of b h) (block_of b h (child tree 0)) (block_of b h (child tree 1)) (block_of b h (child tree 2)) (block_of b h (child tree 3))
+are_squares b h tree is =
+    let all = quadrants_canonical b h tree is in
+    record { a_tall = all.0.sized.tall; a_wide = all.0.sized.wide; b_wide = all.1.sized.wide; c_tall = all.2.sized.tall }
+
+-- where the four quadrants of a block begin
+pub record AreCorners (half : ℕ) (at second third fourth : Corner) : Type 0 where
+  pub second_above : second.above ≡ at.above
+  pub second_left : second.left ≡ at.left + half
+  pub third_above : third.above ≡ at.above + half
+  pub third_left : third.left ≡ at.left
+  pub fourth_above : fourth.above ≡ at.above + half
+  pub fourth_left : fourth.left ≡ at.left + half
+
+-- the cells of a node from those of its children
+pub cells_of_node : (k half : ℕ) (at second third fourth : Corner) (tree : Tree MatChunk) (xs ys zs ws cells : List Cell) → 1 ≤ k → half ≡ 2 ^ (k - 1)
+    → AreCorners half at second third fourth → AreCellsAt at (child tree 0) xs → AreCellsAt second (child tree 1) ys → AreCellsAt third (child tree 2) zs
+    → AreCellsAt fourth (child tree 3) ws → cells ≡ beside xs ys ++ beside zs ws → AreCellsFor k at tree cells
+cells_of_node zero half at second third fourth tree xs ys zs ws cells high is corners x y z w all b canonical = absurd (omega arith)
+cells_of_node (suc h) half at second third fourth tree xs ys zs ws cells high is corners x y z w all b canonical =
+    let side = side_of b h in
+    let quadrants = quadrants_canonical b h tree canonical in
+    let m0 = block_of b h (child tree 0) in
+    let m1 = block_of b h (child tree 1) in
+    let m2 = block_of b h (child tree 2) in
+    let m3 = block_of b h (child tree 3) in
+    let half_is : half ≡ 2 ^ h = is ∙ ap (λ k. 2 ^ k) (suc-sub_one h) in
+    let wide : (n : ℕ) → (n + half) * b ≡ n * b + side = λ n. ap (λ p. (n + p) * b) half_is ∙ distribute n (2 ^ h) b in
+    let upper_second : ys ≡ square_cells side m1 (at.above * b) (at.left * b + side) =
+    y h b quadrants.1 ∙ ap (λ n. square_cells side m1 (n * b) (second.left * b)) corners.second_above
+    ∙ ap (λ n. square_cells side m1 (at.above * b) n) (ap (λ n. n * b) corners.second_left ∙ wide at.left) in
+    let lower_first : zs ≡ square_cells side m2 (at.above * b + side) (at.left * b) =
+    z h b quadrants.2 ∙ ap (λ n. square_cells side m2 (third.above * b) (n * b)) corners.third_left
+    ∙ ap (λ n. square_cells side m2 n (at.left * b)) (ap (λ n. n * b) corners.third_above ∙ wide at.above) in
+    let lower_second : ws ≡ square_cells side m3 (at.above * b + side) (at.left * b + side) =
+    w h b quadrants.3 ∙ ap (λ n. square_cells side m3 (fourth.above * b) n) (ap (λ n. n * b) corners.fourth_left ∙ wide at.left)
+    ∙ ap (λ n. square_cells side m3 n (at.left * b + side)) (ap (λ n. n * b) corners.fourth_above ∙ wide at.above) in
+    all
+    ∙ ap (λ cs. beside cs ys ++ beside zs ws) (x h b quadrants.0)
+    ∙ ap (λ cs. beside (square_cells side m0 (at.above * b) (at.left * b)) cs ++ beside zs ws) upper_second
+    ∙ ap (λ cs. beside (square_cells side m0 (at.above * b) (at.left * b)) (square_cells side m1 (at.above * b) (at.left * b + side)) ++ beside cs ws) lower_first
+    ∙ ap (λ cs. beside (square_cells side m0 (at.above * b) (at.left * b)) (square_cells side m1 (at.above * b) (at.left * b + side)) ++ beside (square_cells side m2 (at.above * b + side) (at.left * b)) cs) lower_second
+    ∙ sym (square_of_joined side m0 m1 m2 m3 (are_squares b h tree canonical) (at.above * b) (at.left * b))
+    ∙ ap (λ m. square_cells (side + side) m (at.above * b) (at.left * b)) (sym (block_of_quadrants b h tree canonical))
+    ∙ ap (λ s. square_cells s (block_of b (suc h) tree) (at.above * b) (at.left * b)) (sym (side_twice b h))
+
+-- ---- Whole trees
+
+-- a whole tree is a piece of itself
+pub whole_piece : (at : Corner) (tree : Tree MatChunk) → at.above ≡ 0 → at.left ≡ 0 → IsBlockTree tree → IsPiece 0 at tree
+whole_piece at tree top left is =
+    let most = pow_mono is.low in
+    record {
+      leaf = is.leaf;
+      height = is.height;
+      leaf_high = is.leaf_high;
+      canonical = is.canonical;
+      deep = omega (arith, is.low);
+      above = omega (arith, most, top);
+      left = omega (arith, most, left);
+    }
+
+no_times : (n b : ℕ) → n ≡ 0 → n * b ≡ 0
+no_times n b e = ap (λ k. k * b) e ∙ zero-mul b
+
+-- and its cells are those of its block
+pub whole_cells : (at : Corner) (tree : Tree MatChunk) (cells : List Cell) → at.above ≡ 0 → at.left ≡ 0 → AreCellsAt at tree cells → AreEntriesOf tree cells
+whole_cells at tree cells top left are b h is =
+    are h b is
+    ∙ ap (λ n. square_cells (side_of b h) (block_of b h tree) n (at.left * b)) (no_times at.above b top)
+    ∙ ap (λ n. square_cells (side_of b h) (block_of b h tree) 0 n) (no_times at.left b left)
+    ∙ square_of_whole (side_of b h) (block_of b h tree) is.sized.whole is.sized.tall is.sized.wide
+
+-- nothing has no cells
+pub nothing_whole : AreEntriesOf Nothing []
+nothing_whole = whole_cells (record { above = 0; left = 0 }) Nothing [] refl refl (nothing_there (record { above = 0; left = 0 }) Nothing [] refl refl)
