@@ -1,7 +1,12 @@
 -- Trees of blocks and their parts, with the cells of each.
-use Rattle.std.proofs.Common.{◌≡◌, ℕ, zero, suc, ◌+◌, ◌-◌, ◌*◌, ◌^◌, ◌<◌, ◌≤◌, Bool, true, false, List, [], ◌∷◌, ◌++◌, Option, None, Some, ℤ, refl, sym, ap, ◌∙◌, subst, arith, pow-suc, zero-mul}
+use Rattle.std.proofs.Common.{◌≡◌, ℕ, zero, suc, ◌+◌, ◌-◌, ◌*◌, ◌^◌, ◌<◌, ◌≤◌, Bool, true, false, List, [], ◌∷◌, ◌++◌, length, Option, None, Some, ℤ, refl, sym, ap, ◌∙◌, subst, arith, pow-suc, zero-mul}
 use Rattle.std.proofs.Math.Pow.{pow_mono}
 use Rattle.std.proofs.lemmas.Bool.{true≢false}
+use Rattle.std.proofs.lemmas.List.{length-append}
+use Rattle.cht_ids.specs.declared.refs.Id.{Id}
+use Rattle.cht_ids.specs.declared.refs.Ref.TheVariants.{Id as Held}
+use Rattle.cht_engine.specs.Seen.{Seen, Holds, tree_named}
+use Rattle.quad_matrix.specs.declared.kind.MatKind.{MatKind}
 use Rattle.dense_def.specs.Matrix.{Matrix, height, joined}
 use Rattle.leaf_blocks.specs.Block.{IsBlock}
 use Rattle.task_types.specs.Tree.{Tree, Nothing, Root, child}
@@ -15,7 +20,7 @@ use Rattle.quad_matrix.specs.Blocks.{block_of, IsCanonical}
 use Rattle.quad_matrix.proofs.ForOthers.{side_low, side_twice, suc-sub_one, root_of_leaf, root_of_node, child_canonical, quadrants_canonical, block_of_quadrants}
 use Rattle.cht_session.specs.declared.corner.Corner.{Corner}
 use Rattle.cht_session.specs.SquareCells.{square_cells, beside}
-use Rattle.cht_session.specs.BlockTrees.{IsBlockTree, AreEntriesOf, IsPiece, IsNodePiece, AreCellsFor, AreCellsAt}
+use Rattle.cht_session.specs.BlockTrees.{IsBlockTree, AreEntriesOf, IsPiece, IsNodePiece, tree_reached, AreCellsFor, AreCellsAt}
 use Rattle.cht_session.proofs.CellRows.{AreSquares}
 use Rattle.cht_session.proofs.SquareJoins.{square_of_zeros, square_of_joined, square_of_whole}
 
@@ -201,6 +206,56 @@ cells_of_node (suc h) half at second third fourth tree xs ys zs ws cells high is
     ∙ sym (square_of_joined side m0 m1 m2 m3 (are_squares b h tree canonical) (at.above * b) (at.left * b))
     ∙ ap (λ m. square_cells (side + side) m (at.above * b) (at.left * b)) (sym (block_of_quadrants b h tree canonical))
     ∙ ap (λ s. square_cells s (block_of b (suc h) tree) (at.above * b) (at.left * b)) (sym (side_twice b h))
+
+-- the same from lists that are those of the children
+pub put_from : (a b c d xs ys zs ws cells : List Cell) → a ≡ xs → b ≡ ys → c ≡ zs → d ≡ ws → cells ≡ beside a b ++ beside c d → cells ≡ beside xs ys ++ beside zs ws
+put_from a b c d xs ys zs ws cells p q r s all =
+    all ∙ ap (λ l. beside l b ++ beside c d) p ∙ ap (λ l. beside xs l ++ beside c d) q ∙ ap (λ l. beside xs ys ++ beside l d) r ∙ ap (λ l. beside xs ys ++ beside zs l) s
+
+-- ---- After calls that leave all as it was
+
+-- what a child needs, where the caller sees the same and the path is the same
+pub record IsReady (seen : Seen MatChunk MatKind) (id : Id) (path : List ℕ) (to : Corner) (j : ℕ) : Type 0 where
+  pub held : Holds seen id
+  pub shallow : length path + 1 ≤ 16
+  pub piece : IsPiece (length path + 1) to (child (tree_reached seen id path) j)
+
+pub ready : (before now : Seen MatChunk MatKind) (id : Id) (path again : List ℕ) (k half : ℕ) (at to : Corner) (j : ℕ) → now ≡ before → again ≡ path
+    → Holds before id → IsNodePiece (length path) k at (tree_reached before id path) → half ≡ 2 ^ (k - 1)
+    → to.above ≤ at.above + half → to.left ≤ at.left + half → IsReady now id again to j
+ready before now id path again k half at to j same way held piece is down right =
+    let P : Seen MatChunk MatKind → Type 0 = λ s. IsReady s id again to j in
+    let Q : List ℕ → Type 0 = λ p. IsReady before id p to j in
+    subst P (sym same)
+    (subst Q (sym way)
+    (record {
+      held = held;
+      shallow = omega (arith, piece.deep, piece.high);
+      piece = child_of_piece (length path) k half at to (tree_reached before id path) j piece is down right;
+    }))
+
+-- the cells of a child that was read afterwards
+pub cells_of_same : (before now : Seen MatChunk MatKind) (id : Id) (path again : List ℕ) (to : Corner) (j : ℕ) (xs : List Cell) → now ≡ before → again ≡ path
+    → AreCellsAt to (child (tree_reached now id again) j) xs → AreCellsAt to (child (tree_reached before id path) j) xs
+cells_of_same before now id path again to j xs same way are =
+    let P : Seen MatChunk MatKind → Type 0 = λ s. AreCellsAt to (child (tree_reached s id path) j) xs in
+    let Q : List ℕ → Type 0 = λ p. AreCellsAt to (child (tree_reached now id p) j) xs in
+    subst P same (subst Q way are)
+
+-- a path that is longer by a child number
+pub piece_below : (seen : Seen MatChunk MatKind) (id : Id) (path longer : List ℕ) (to : Corner) (j : ℕ) → longer ≡ path ++ j ∷ []
+    → IsPiece (length path + 1) to (child (tree_reached seen id path) j) → IsPiece (length longer) to (tree_reached seen id longer)
+piece_below seen id path longer to j more piece =
+    let P : List ℕ → Type 0 = λ p. IsPiece (length p) to (tree_reached seen id p) in
+    let Q : ℕ → Type 0 = λ n. IsPiece n to (tree_reached seen id (path ++ j ∷ [])) in
+    let R : Tree MatChunk → Type 0 = λ t. IsPiece (length path + 1) to t in
+    subst P (sym more) (subst Q (sym (length-append path (j ∷ []))) (subst R (sym (below_more (tree_named seen (Held id)) path j)) piece))
+
+pub cells_at_child : (seen : Seen MatChunk MatKind) (id : Id) (path longer : List ℕ) (to : Corner) (j : ℕ) (xs : List Cell) → longer ≡ path ++ j ∷ []
+    → AreCellsAt to (tree_reached seen id longer) xs → AreCellsAt to (child (tree_reached seen id path) j) xs
+cells_at_child seen id path longer to j xs more are =
+    let P : Tree MatChunk → Type 0 = λ t. AreCellsAt to t xs in
+    subst P (ap (tree_reached seen id) more ∙ below_more (tree_named seen (Held id)) path j) are
 
 -- ---- Whole trees
 

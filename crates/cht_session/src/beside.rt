@@ -13,6 +13,7 @@ pub(crate) fn push_beside(
 ) -> Result<(), Memory>
     ensures { OnOk result (cells.new.items ≡ cells.old.items ++ beside left.now right.now) }
 {
+    cells.reserve(left.len() + right.len())?;
     let mut first = left;
     let mut second = right;
     while let Some((cell, behind)) = first.split_first() {

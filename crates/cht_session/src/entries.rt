@@ -34,13 +34,14 @@ pub fn entries_of<E: Engine<MatLib>>(
     ensures listed { IfOk result (AreEntriesOf (tree_named (E.seen engine.old) r)) }
     ensures unchanged { E.seen engine.new ≡ E.seen engine.old }
 {
-    let Form::General = form else {
-        // No other form is asked for.
-        return Err(Memory);
+    let id = match r {
+        Ref::Null => return Ok(List::new(alloc)),
+        Ref::Id(id) => id,
     };
-    match r {
-        Ref::Null => Ok(List::new(alloc)),
-        Ref::Id(id) => general_entries(alloc, engine, ctx, id),
+    match form {
+        Form::General => general_entries(alloc, engine, ctx, id),
+        // No caller holds a block of this form.
+        Form::Symmetric => Err(Memory),
     }
 }
 
