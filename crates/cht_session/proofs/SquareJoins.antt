@@ -1,7 +1,7 @@
 -- The cells of square blocks: of zeros, of four quadrants joined, and of a whole matrix.
-use Rattle.std.proofs.Common.{◌≡◌, ℕ, zero, suc, ◌+◌, ◌-◌, ◌<◌, ◌≤◌, List, [], ◌∷◌, ◌++◌, length, ◌⊎◌, inl, inr, ℤ, pos, refl, sym, ap, ◌∙◌, subst, arith, append-nil}
+use Rattle.std.proofs.Common.{◌≡◌, ℕ, zero, suc, ◌+◌, ◌-◌, ◌<◌, ◌≤◌, List, [], ◌++◌, length, ℤ, pos, refl, sym, ap, ◌∙◌, subst, arith, append-nil}
 use Rattle.dense_def.specs.Matrix.{Matrix, height, entry, made, tabulate, joined, zeros, completed, IsMatrix}
-use Rattle.dense_def.proofs.Entries.{length-tabulate, IsMatrix-made, made_entry, entry_made}
+use Rattle.dense_def.proofs.Entries.{length-tabulate, IsMatrix-made, made_entry}
 use Rattle.dense_def.proofs.Completed.{entry_below, entry_right}
 use Rattle.mm_text.specs.declared.market.Cell.{Cell}
 use Rattle.mm_text.specs.Cells.{cells_of_row, cells_of_rows, cells_of}

@@ -1,5 +1,5 @@
 -- Trees of blocks and their parts, with the cells of each.
-use Rattle.std.proofs.Common.{◌≡◌, ℕ, zero, suc, ◌+◌, ◌-◌, ◌*◌, ◌^◌, ◌<◌, ◌≤◌, Bool, true, false, List, [], ◌∷◌, ◌++◌, length, Option, None, Some, ℤ, refl, sym, ap, ◌∙◌, subst, arith, pow-suc, zero-mul}
+use Rattle.std.proofs.Common.{◌≡◌, ℕ, zero, suc, ◌+◌, ◌-◌, ◌*◌, ◌^◌, ◌<◌, ◌≤◌, Bool, true, false, List, [], ◌∷◌, ◌++◌, length, Option, None, Some, refl, sym, ap, ◌∙◌, subst, arith, pow-suc, zero-mul}
 use Rattle.std.proofs.Math.Pow.{pow_mono}
 use Rattle.std.proofs.lemmas.Bool.{true≢false}
 use Rattle.std.proofs.lemmas.List.{length-append}
@@ -7,12 +7,10 @@ use Rattle.cht_ids.specs.declared.refs.Id.{Id}
 use Rattle.cht_ids.specs.declared.refs.Ref.TheVariants.{Id as Held}
 use Rattle.cht_engine.specs.Seen.{Seen, Holds, tree_named}
 use Rattle.quad_matrix.specs.declared.kind.MatKind.{MatKind}
-use Rattle.dense_def.specs.Matrix.{Matrix, height, joined}
-use Rattle.leaf_blocks.specs.Block.{IsBlock}
+use Rattle.dense_def.specs.Matrix.{Matrix, height}
 use Rattle.task_types.specs.Tree.{Tree, Nothing, Root, child}
 use Rattle.name_machine.specs.Paths.{root_content, tree_below, content_at}
 use Rattle.mm_text.specs.declared.market.Cell.{Cell}
-use Rattle.mm_text.specs.Cells.{cells_of}
 use Rattle.chunk_codec.specs.Spots.{side_of}
 use Rattle.quad_matrix.specs.declared.chunk.MatChunk.{MatChunk}
 use Rattle.quad_matrix.specs.declared.chunk.MatChunk.TheVariants as chunk
@@ -91,8 +89,9 @@ nothing_there at Nothing cells none e h b is = none ∙ sym (square_of_zeros (si
 nothing_there at (Root c x y z w) cells none e h b is = absurd cc
 
 -- no tree of a block is a list of entries or a number
-pub no_content : (depth : ℕ) (at : Corner) (tree : Tree MatChunk) (c : MatChunk) → IsPiece depth at tree → Some c ≡ root_content tree → is_leaf_or_node c ≡ false → ⊥
-no_content depth at tree c piece e other = true≢false (sym (no_other piece.leaf piece.height tree c piece.canonical e) ∙ other)
+pub none_there : (depth : ℕ) (at : Corner) (tree : Tree MatChunk) (c : MatChunk) (cells : List Cell) → IsPiece depth at tree → Some c ≡ root_content tree
+    → is_leaf_or_node c ≡ false → AreCellsAt at tree cells
+none_there depth at tree c cells piece e other = absurd (true≢false (sym (no_other piece.leaf piece.height tree c piece.canonical e) ∙ other))
 
 -- a leaf is small, and begins within 2 ^ 16 leaf blocks
 pub leaf_within : (depth : ℕ) (at : Corner) (tree : Tree MatChunk) (m : Matrix) → IsPiece depth at tree → Some (chunk.Leaf m) ≡ root_content tree
@@ -213,6 +212,20 @@ put_from a b c d xs ys zs ws cells p q r s all =
     all ∙ ap (λ l. beside l b ++ beside c d) p ∙ ap (λ l. beside xs l ++ beside c d) q ∙ ap (λ l. beside xs ys ++ beside l d) r ∙ ap (λ l. beside xs ys ++ beside zs l) s
 
 -- ---- After calls that leave all as it was
+
+-- the caller still sees the same after two such calls, and after three
+pub same_twice : (first second third : Seen MatChunk MatKind) → second ≡ first → third ≡ second → third ≡ first
+same_twice first second third e f = f ∙ e
+
+pub same_thrice : (first second third fourth : Seen MatChunk MatKind) → second ≡ first → third ≡ second → fourth ≡ third → fourth ≡ first
+same_thrice first second third fourth e f h = h ∙ f ∙ e
+
+-- and so does the path
+pub path_twice : (first second third : List ℕ) → second ≡ first → third ≡ second → third ≡ first
+path_twice first second third e f = f ∙ e
+
+pub path_thrice : (first second third fourth : List ℕ) → second ≡ first → third ≡ second → fourth ≡ third → fourth ≡ first
+path_thrice first second third fourth e f h = h ∙ f ∙ e
 
 -- what a child needs, where the caller sees the same and the path is the same
 pub record IsReady (seen : Seen MatChunk MatKind) (id : Id) (path : List ℕ) (to : Corner) (j : ℕ) : Type 0 where

@@ -13,7 +13,6 @@ pub(crate) fn push_beside(
 ) -> Result<(), Memory>
     ensures { OnOk result (cells.new.items ≡ cells.old.items ++ beside left.now right.now) }
 {
-    cells.reserve(left.len() + right.len())?;
     let mut first = left;
     let mut second = right;
     while let Some((cell, behind)) = first.split_first() {
@@ -26,11 +25,7 @@ pub(crate) fn push_beside(
 }
 
 // Adds the cells at the front of a list that stand in rows before that row. Answers those behind.
-fn push_before<'a>(
-    row: u32,
-    list: &'a [Cell],
-    cells: &mut Vec<Cell>,
-) -> Result<&'a [Cell], Memory>
+fn push_before<'a>(row: u32, list: &'a [Cell], cells: &mut Vec<Cell>) -> Result<&'a [Cell], Memory>
     ensures added { OnOk result (cells.new.items ≡ cells.old.items ++ before_row row list.now) }
     ensures behind { IfOk result (λ rest. rest.now ≡ from_row row list.now) }
 {

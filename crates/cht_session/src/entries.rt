@@ -109,12 +109,22 @@ fn node_cells<E: Engine<MatLib>>(
     ensures unchanged { E.seen engine.new ≡ E.seen engine.old }
 {
     let half = leaves_across(height - 1);
-    let below = at.above + half;
-    let right = at.left + half;
+    let right = Corner {
+        above: at.above,
+        left: at.left + half,
+    };
+    let below = Corner {
+        above: at.above + half,
+        left: at.left,
+    };
+    let across = Corner {
+        above: at.above + half,
+        left: at.left + half,
+    };
     let first = child_cells(alloc, engine, ctx, id, path, 0, at)?;
-    let second = child_cells(alloc, engine, ctx, id, path, 1, Corner { above: at.above, left: right })?;
-    let third = child_cells(alloc, engine, ctx, id, path, 2, Corner { above: below, left: at.left })?;
-    let fourth = child_cells(alloc, engine, ctx, id, path, 3, Corner { above: below, left: right })?;
+    let second = child_cells(alloc, engine, ctx, id, path, 1, right)?;
+    let third = child_cells(alloc, engine, ctx, id, path, 2, below)?;
+    let fourth = child_cells(alloc, engine, ctx, id, path, 3, across)?;
     put_together(alloc, &first, &second, &third, &fourth)
 }
 
@@ -160,7 +170,9 @@ fn put_together(
 ) -> Result<Vec<Cell>, Memory>
     ensures { IfOk result (λ cells. cells.items ≡ beside first.now second.now ++ beside third.now fourth.now) }
 {
-    let mut cells = Vec::new(alloc);
+    let upper = first.len() + second.len();
+    let lower = third.len() + fourth.len();
+    let mut cells = Vec::with_capacity(alloc, upper.saturating_add(lower))?;
     push_beside(first, second, &mut cells)?;
     push_beside(third, fourth, &mut cells)?;
     Ok(cells)

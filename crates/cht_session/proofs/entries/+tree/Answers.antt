@@ -1,10 +1,12 @@
-use Rattle.std.proofs.Common.{rules, ◌≡◌, ◌+◌, ◌∙◌, ap, sym, refl, subst, arith, length, Some, None}
+use Rattle.std.proofs.Common.{rules, ◌≡◌, ◌+◌, ◌*◌, ◌++◌, ◌∙◌, ap, sym, refl, arith, length, Some, None}
 use Rattle.std.proofs.lemmas.Result.{IfOk-weaker}
 use Rattle.cht_ids.specs.declared.refs.Ref.TheVariants.{Id as Held}
 use Rattle.cht_engine.specs.Seen.{tree_named}
 use Rattle.quad_matrix.specs.declared.chunk.MatChunk.TheVariants as chunk
-use Rattle.cht_session.specs.BlockTrees.{tree_reached, IsNodePiece, AreCellsAt, AreCellsFor}
-use Rattle.cht_session.proofs.TreePieces.{content_found, nothing_there, leaf_within, cells_of_leaf, node_of_piece, cells_for_each, no_content, AreCorners, cells_of_node, put_from, ready, cells_of_same, piece_below, cells_at_child}
+use Rattle.cht_session.specs.BlockTrees.{tree_reached, AreCellsAt, AreCellsFor}
+use Rattle.dense_def.specs.Matrix.{height}
+use Rattle.cht_session.specs.SquareCells.{square_cells, beside}
+use Rattle.cht_session.proofs.TreePieces.{content_found, nothing_there, leaf_within, cells_of_leaf, node_of_piece, cells_for_each, none_there, AreCorners, cells_of_node, put_from, same_twice, same_thrice, path_twice, path_thrice, ready, cells_of_same, piece_below, cells_at_child}
 use Rattle.cht_session.proofs.entries.+tree.Goals as goal
 
 pub cells_below-returns-in_default-clause-listed : goal.cells_below-returns-in_default-clause-listed
@@ -22,7 +24,9 @@ pub cells_below-returns-in-Leaf-clause-listed : goal.cells_below-returns-in-Leaf
 cells_below-returns-in-Leaf-clause-listed g t c =
     let e = content_found (tree_named (g.E.Engine.seen c.args.engine.now) (Held c.args.id)) c.in_ok-content.field-0 (Some (chunk.Leaf c.in-Leaf.block)) c.args.path.now.items c.as_slice.result.now c.in_ok-content.ensures.found c.as_slice.ensures.value
     (c.in-Some.is ∙ ap (λ x. Some x) (sym c.get.ensures ∙ c.in-Leaf.is)) in
-    IfOk-weaker c.leaf_cells.result _ (λ cells. AreCellsAt c.args.at (tree_reached (g.E.Engine.seen c.args.engine.now) c.args.id c.args.path.now.items) cells.items)
+    IfOk-weaker c.leaf_cells.result
+    (λ cells. cells.items ≡ square_cells (height c.in-Leaf.block) c.in-Leaf.block (c.args.at.above * height c.in-Leaf.block) (c.args.at.left * height c.in-Leaf.block))
+    (λ cells. AreCellsAt c.args.at (tree_reached (g.E.Engine.seen c.args.engine.now) c.args.id c.args.path.now.items) cells.items)
     (λ cells are. cells_of_leaf c.args.at (tree_reached (g.E.Engine.seen c.args.engine.now) c.args.id c.args.path.now.items) c.in-Leaf.block cells.items e are) c.leaf_cells.ensures
 
 pub cells_below-node_cells-requires : goal.cells_below-node_cells-requires
@@ -46,13 +50,13 @@ pub cells_below-returns-in-Entries-clause-listed : goal.cells_below-returns-in-E
 cells_below-returns-in-Entries-clause-listed g t c =
     let e = content_found (tree_named (g.E.Engine.seen c.args.engine.now) (Held c.args.id)) c.in_ok-content.field-0 (Some (chunk.Entries c.in-Entries.field-0)) c.args.path.now.items c.as_slice.result.now c.in_ok-content.ensures.found c.as_slice.ensures.value
     (c.in-Some.is ∙ ap (λ x. Some x) (sym c.get.ensures ∙ c.in-Entries.is)) in
-    absurd (no_content (length c.args.path.now.items) c.args.at (tree_reached (g.E.Engine.seen c.args.engine.now) c.args.id c.args.path.now.items) (chunk.Entries c.in-Entries.field-0) c.requires.piece e refl)
+    none_there (length c.args.path.now.items) c.args.at (tree_reached (g.E.Engine.seen c.args.engine.now) c.args.id c.args.path.now.items) (chunk.Entries c.in-Entries.field-0) c.new-in-Entries.result.items c.requires.piece e refl
 
 pub cells_below-returns-clause-listed : goal.cells_below-returns-clause-listed
 cells_below-returns-clause-listed g t c =
     let e = content_found (tree_named (g.E.Engine.seen c.args.engine.now) (Held c.args.id)) c.in_ok-content.field-0 (Some (chunk.Num c.in-Num.field-0)) c.args.path.now.items c.as_slice.result.now c.in_ok-content.ensures.found c.as_slice.ensures.value
     (c.in-Some.is ∙ ap (λ x. Some x) (sym c.get.ensures ∙ c.in-Num.is)) in
-    absurd (no_content (length c.args.path.now.items) c.args.at (tree_reached (g.E.Engine.seen c.args.engine.now) c.args.id c.args.path.now.items) (chunk.Num c.in-Num.field-0) c.requires.piece e refl)
+    none_there (length c.args.path.now.items) c.args.at (tree_reached (g.E.Engine.seen c.args.engine.now) c.args.id c.args.path.now.items) (chunk.Num c.in-Num.field-0) c.new-in-Num.result.items c.requires.piece e refl
 
 pub child_cells-cells_below-requires : goal.child_cells-cells_below-requires
 child_cells-cells_below-requires g t c κs within =
@@ -78,13 +82,13 @@ node_cells-child_cells-requires-2 g t c κs within =
 pub node_cells-child_cells-requires-3 : goal.node_cells-child_cells-requires-3
 node_cells-child_cells-requires-3 g t c κs within =
     let is = ready (g.E.Engine.seen c.args.engine.now) (g.E.Engine.seen c.child_cells-2.new.engine) c.args.id c.args.path.now.items c.child_cells-2.new.path.items c.args.height c.leaves_across-half.result c.args.at (record { above = c.args.at.above + c.leaves_across-half.result; left = c.args.at.left }) 2
-    (c.in_ok-second.ensures.unchanged ∙ c.in_ok-first.ensures.unchanged) (c.in_ok-second.ensures.path ∙ c.in_ok-first.ensures.path) c.requires.held c.requires.piece c.leaves_across-half.ensures (omega arith) (omega arith) in
+    (same_twice (g.E.Engine.seen c.args.engine.now) (g.E.Engine.seen c.child_cells.new.engine) (g.E.Engine.seen c.child_cells-2.new.engine) c.in_ok-first.ensures.unchanged c.in_ok-second.ensures.unchanged) (path_twice c.args.path.now.items c.child_cells.new.path.items c.child_cells-2.new.path.items c.in_ok-first.ensures.path c.in_ok-second.ensures.path) c.requires.held c.requires.piece c.leaves_across-half.ensures (omega arith) (omega arith) in
     (search rules, (within.0, (within.1, (is.held, (is.shallow, is.piece)))))
 
 pub node_cells-child_cells-requires-4 : goal.node_cells-child_cells-requires-4
 node_cells-child_cells-requires-4 g t c κs within =
     let is = ready (g.E.Engine.seen c.args.engine.now) (g.E.Engine.seen c.child_cells-3.new.engine) c.args.id c.args.path.now.items c.child_cells-3.new.path.items c.args.height c.leaves_across-half.result c.args.at (record { above = c.args.at.above + c.leaves_across-half.result; left = c.args.at.left + c.leaves_across-half.result }) 3
-    (c.in_ok-third.ensures.unchanged ∙ c.in_ok-second.ensures.unchanged ∙ c.in_ok-first.ensures.unchanged) (c.in_ok-third.ensures.path ∙ c.in_ok-second.ensures.path ∙ c.in_ok-first.ensures.path) c.requires.held c.requires.piece c.leaves_across-half.ensures (omega arith) (omega arith) in
+    (same_thrice (g.E.Engine.seen c.args.engine.now) (g.E.Engine.seen c.child_cells.new.engine) (g.E.Engine.seen c.child_cells-2.new.engine) (g.E.Engine.seen c.child_cells-3.new.engine) c.in_ok-first.ensures.unchanged c.in_ok-second.ensures.unchanged c.in_ok-third.ensures.unchanged) (path_thrice c.args.path.now.items c.child_cells.new.path.items c.child_cells-2.new.path.items c.child_cells-3.new.path.items c.in_ok-first.ensures.path c.in_ok-second.ensures.path c.in_ok-third.ensures.path) c.requires.held c.requires.piece c.leaves_across-half.ensures (omega arith) (omega arith) in
     (search rules, (within.0, (within.1, (is.held, (is.shallow, is.piece)))))
 
 pub node_cells-returns-clause-listed : goal.node_cells-returns-clause-listed
@@ -97,10 +101,12 @@ node_cells-returns-clause-listed g t c =
     let second = cells_of_same seen (g.E.Engine.seen c.child_cells.new.engine) c.args.id path c.child_cells.new.path.items (record { above = c.args.at.above; left = c.args.at.left + c.leaves_across-half.result }) 1 c.in_ok-second.second.items
     c.in_ok-first.ensures.unchanged c.in_ok-first.ensures.path c.in_ok-second.ensures.listed in
     let third = cells_of_same seen (g.E.Engine.seen c.child_cells-2.new.engine) c.args.id path c.child_cells-2.new.path.items (record { above = c.args.at.above + c.leaves_across-half.result; left = c.args.at.left }) 2 c.in_ok-third.third.items
-    (c.in_ok-second.ensures.unchanged ∙ c.in_ok-first.ensures.unchanged) (c.in_ok-second.ensures.path ∙ c.in_ok-first.ensures.path) c.in_ok-third.ensures.listed in
+    (same_twice (g.E.Engine.seen c.args.engine.now) (g.E.Engine.seen c.child_cells.new.engine) (g.E.Engine.seen c.child_cells-2.new.engine) c.in_ok-first.ensures.unchanged c.in_ok-second.ensures.unchanged) (path_twice c.args.path.now.items c.child_cells.new.path.items c.child_cells-2.new.path.items c.in_ok-first.ensures.path c.in_ok-second.ensures.path) c.in_ok-third.ensures.listed in
     let fourth = cells_of_same seen (g.E.Engine.seen c.child_cells-3.new.engine) c.args.id path c.child_cells-3.new.path.items (record { above = c.args.at.above + c.leaves_across-half.result; left = c.args.at.left + c.leaves_across-half.result }) 3 c.in_ok-fourth.fourth.items
-    (c.in_ok-third.ensures.unchanged ∙ c.in_ok-second.ensures.unchanged ∙ c.in_ok-first.ensures.unchanged) (c.in_ok-third.ensures.path ∙ c.in_ok-second.ensures.path ∙ c.in_ok-first.ensures.path) c.in_ok-fourth.ensures.listed in
-    IfOk-weaker c.put_together.result _ (λ cells. AreCellsFor c.args.height c.args.at (tree_reached seen c.args.id path) cells.items)
+    (same_thrice (g.E.Engine.seen c.args.engine.now) (g.E.Engine.seen c.child_cells.new.engine) (g.E.Engine.seen c.child_cells-2.new.engine) (g.E.Engine.seen c.child_cells-3.new.engine) c.in_ok-first.ensures.unchanged c.in_ok-second.ensures.unchanged c.in_ok-third.ensures.unchanged) (path_thrice c.args.path.now.items c.child_cells.new.path.items c.child_cells-2.new.path.items c.child_cells-3.new.path.items c.in_ok-first.ensures.path c.in_ok-second.ensures.path c.in_ok-third.ensures.path) c.in_ok-fourth.ensures.listed in
+    IfOk-weaker c.put_together.result
+    (λ cells. cells.items ≡ beside c.deref.result.now c.deref-2.result.now ++ beside c.deref-3.result.now c.deref-4.result.now)
+    (λ cells. AreCellsFor c.args.height c.args.at (tree_reached seen c.args.id path) cells.items)
     (λ cells all.
     cells_of_node c.args.height half c.args.at (record { above = c.args.at.above; left = c.args.at.left + c.leaves_across-half.result }) (record { above = c.args.at.above + c.leaves_across-half.result; left = c.args.at.left }) (record { above = c.args.at.above + c.leaves_across-half.result; left = c.args.at.left + c.leaves_across-half.result }) (tree_reached seen c.args.id path)
     c.in_ok-first.first.items c.in_ok-second.second.items c.in_ok-third.third.items c.in_ok-fourth.fourth.items cells.items

@@ -1,4 +1,4 @@
-use Rattle.std.proofs.Common.{List, [], refl, sym, subst, ◌∙◌, length}
+use Rattle.std.proofs.Common.{List, refl, sym, subst, ◌∙◌, length}
 use Rattle.std.proofs.Common.{ℕ}
 use Rattle.cht_ids.specs.declared.refs.Ref.TheVariants.{Id as Held}
 use Rattle.cht_engine.specs.Seen.{tree_named}
