@@ -7,10 +7,11 @@ use Rattle.cht_ids.specs.declared.refs.Id.{Id}
 use Rattle.cht_ids.specs.declared.refs.Ref.TheVariants.{Id as Held}
 use Rattle.cht_engine.specs.Seen.{Seen, Holds, tree_named}
 use Rattle.quad_matrix.specs.declared.kind.MatKind.{MatKind}
-use Rattle.dense_def.specs.Matrix.{Matrix, height}
+use Rattle.dense_def.specs.Matrix.{Matrix, height, entry, made, completed, IsMatrix}
 use Rattle.task_types.specs.Tree.{Tree, Nothing, Root, child}
 use Rattle.name_machine.specs.Paths.{root_content, tree_below, content_at}
 use Rattle.mm_text.specs.declared.market.Cell.{Cell}
+use Rattle.mm_text.specs.Cells.{cells_of}
 use Rattle.chunk_codec.specs.Spots.{side_of}
 use Rattle.quad_matrix.specs.declared.chunk.MatChunk.{MatChunk}
 use Rattle.quad_matrix.specs.declared.chunk.MatChunk.TheVariants as chunk
@@ -20,7 +21,7 @@ use Rattle.cht_session.specs.declared.corner.Corner.{Corner}
 use Rattle.cht_session.specs.SquareCells.{square_cells, beside}
 use Rattle.cht_session.specs.BlockTrees.{IsBlockTree, AreEntriesOf, IsPiece, IsNodePiece, tree_reached, AreCellsFor, AreCellsAt}
 use Rattle.cht_session.proofs.CellRows.{AreSquares}
-use Rattle.cht_session.proofs.SquareJoins.{square_of_zeros, square_of_joined, square_of_whole}
+use Rattle.cht_session.proofs.SquareJoins.{square_of_zeros, square_of_joined, square_of_whole, cells_of_completed, cells_within}
 
 -- one child number more
 pub below_more : {C : Type 0} (tree : Tree C) (path : List ℕ) (j : ℕ) → tree_below tree (path ++ j ∷ []) ≡ child (tree_below tree path) j
@@ -300,3 +301,15 @@ whole_cells at tree cells top left are b h is =
 -- nothing has no cells
 pub nothing_whole : AreEntriesOf Nothing []
 nothing_whole = whole_cells (record { above = 0; left = 0 }) Nothing [] refl refl (nothing_there (record { above = 0; left = 0 }) Nothing [] refl refl)
+
+-- The entries of a tree are the cells of each matrix that is completed by zeros to the tree's block.
+pub entries_of_matrix : (b h : ℕ) (tree : Tree MatChunk) (m : Matrix) (cells : List Cell) → AreEntriesOf tree cells → IsCanonical b h tree → IsMatrix m
+    → height m ≤ side_of b h → m.columns ≤ side_of b h → block_of b h tree ≡ completed (side_of b h) m → cells ≡ cells_of m
+entries_of_matrix b h tree m cells are is whole tall wide same = are b h is ∙ ap cells_of same ∙ cells_of_completed (side_of b h) m whole tall wide
+
+-- the same, where the matrix is the upper left part of the block, and the rest of the block is zero
+pub entries_of_part : (b h rows columns : ℕ) (tree : Tree MatChunk) (cells : List Cell) → AreEntriesOf tree cells → IsCanonical b h tree
+    → rows ≤ side_of b h → columns ≤ side_of b h
+    → block_of b h tree ≡ completed (side_of b h) (made rows columns (λ i j. entry (block_of b h tree) i j))
+    → cells ≡ cells_of (made rows columns (λ i j. entry (block_of b h tree) i j))
+entries_of_part b h rows columns tree cells are is tall wide same = are b h is ∙ cells_within (side_of b h) rows columns (block_of b h tree) tall wide same
