@@ -28,6 +28,10 @@ use Rattle.cht_plain.proofs.Kept.{alone_then, own_written}
 use Rattle.cht_plain.proofs.Mentions.{trees_so}
 use Rattle.cht_plain.proofs.Absent.{none_unfinished, none_stopped}
 
+-- a task that nobody runs is not run
+not_run : {X K : Type 0} (t u : Unfinished X K) → t ≡ u → u.runner ≡ None → (worker : ℕ) → t.runner ≡ Some worker → ⊥
+not_run t u same none worker runs = none_not_some (ap (λ v. v.runner) same ∙ none) runs
+
 module _ {C K : Type 0} (lib : Meanings C K) (arity : C → ℕ) (before after : Contents C K) (rest : IsAtRest lib before) (kind : K) (inputs : List Ref) (task : ℕ)
     (happens : Happens lib arity before after (AskEvent 0 task kind inputs)) where
   -- the new task is not run, and there is no other
@@ -40,10 +44,12 @@ module _ {C K : Type 0} (lib : Meanings C K) (arity : C → ℕ) (before after :
       let from = changed_from graph (now.drawn + 1) q change runs.0 there in
       let new = inserted_from now.graph.tasks (now.drawn + 1) q _ from.0 from.1 in
       elim new [
-        | inl here ↦ elim from.2 [
-          | inl changed ↦ none_not_some (ap (λ v. v.runner) changed.1 ∙ ap (λ v. v.runner) here.1) runs.2
-          | inr same ↦ none_not_some (ap (λ v. v.runner) same.1 ∙ ap (λ v. v.runner) here.1) runs.2
-        ]
+        | inl here ↦
+            let none : from.0.runner ≡ None = ap (λ v. v.runner) here.1 in
+            elim from.2 [
+              | inl changed ↦ not_run runs.0 (change from.0) changed.1 none worker runs.2
+              | inr same ↦ not_run runs.0 from.0 same.1 none worker runs.2
+            ]
         | inr old ↦ none_unfinished lib before rest facts q from.0 old.1
       ]
 
