@@ -264,6 +264,7 @@ fn runs_a_graph_with_shared_outputs_to_its_end(rt: HostRuntime) {
         })
     );
     assert_eq!(rt; shown(&tasks, 5), Some((0, 8, Some(Slot::Awaits(1, 6)))));
+    assert_eq!(rt; tasks.first_of(0), Some(1));
     assert_eq!(rt; tasks.next_of(0, 3), Some(5));
     // each step, and the least Ready task after it
     let steps = [
@@ -293,5 +294,6 @@ fn runs_a_graph_with_shared_outputs_to_its_end(rt: HostRuntime) {
     assert!(rt; !tasks.any());
     assert!(rt; apply(&mut tasks, Step::Abandon(1)));
     assert!(rt; !tasks.is_stopped(1));
+    assert_eq!(rt; tasks.first_of(1), None);
     assert_eq!(rt; tasks.next_of(1, 0), None);
 }

@@ -21,7 +21,7 @@ use Rattle.cht_core.specs.Answers.{HasAsked, IsNotDelivered, IsStopped}
 use Rattle.cht_core.proofs.Calls.{IsCore, stop_made}
 use Rattle.cht_core.proofs.Together.{ask_from, has_ask_from}
 
-true_not_false : {b : Bool} → b ≡ true → b ≡ false → ⊥
+pub true_not_false : {b : Bool} → b ≡ true → b ≡ false → ⊥
 true_not_false really never = let clash : true ≡ false = sym really ∙ never in cc
 
 module _ {C K : Type 0} (lib : Meanings C K) (control : Control C (Unit {0}) K) (facts : HoldsTogether lib (machine_of lib control)) where

@@ -1,3 +1,4 @@
+mod Abandons
 mod AskCalls
 mod Calls
 mod FinishAllowed

@@ -27,6 +27,12 @@ awaits_shown g same [] place a n at = absurd (none_not_some refl at)
 awaits_shown g same (i ∷ inputs) zero a n at = ap (λ o. option_map g o) at ∙ ap Some (same a n)
 awaits_shown g same (i ∷ inputs) (suc place) a n at = awaits_shown g same inputs place a n at
 
+-- a caller of an unfinished task has an ask, where going on from the task ends at one
+pub ends_asked : {X Y G K : Type 0} (g : Graph X K) (asks : map.FinMap nat_cmp (Ask G Y)) (c q : ℕ) → EndsAtAsk g asks c q → has_ask asks c ≡ true
+ends_asked g asks c q (Asked task number key t ask at own asked found theirs same none) =
+    any_from (is_of c) asks key ask found (ap (λ n. nat_eq n c) theirs ∙ test_same c)
+ends_asked g asks c q (Awaited task by t at own awaits rest) = ends_asked g asks c by rest
+
 module _ {C K : Type 0} (lib : Meanings C K) (control : Control C (Unit {0}) K) (facts : HoldsTogether lib (machine_of lib control)) where
   abbrev graph : Graph (Tree C) K
   graph = graph_shown control.names control.graph
@@ -68,11 +74,6 @@ module _ {C K : Type 0} (lib : Meanings C K) (control : Control C (Unit {0}) K) 
       let from = ask_from one.0 one.1 one.2 in
       any_from (is_of caller) control.asks one.0 from.0 from.1
       (ap (λ (a : Ask (Tree C) (Tree C)). nat_eq a.caller caller) (sym from.2) ∙ one.3)
-
-  ends_asked : {X Y G : Type 0} (g : Graph X K) (asks : map.FinMap nat_cmp (Ask G Y)) (c q : ℕ) → EndsAtAsk g asks c q → has_ask asks c ≡ true
-  ends_asked g asks c q (Asked task number key t ask at own asked found theirs same none) =
-      any_from (is_of c) asks key ask found (ap (λ n. nat_eq n c) theirs ∙ test_same c)
-  ends_asked g asks c q (Awaited task by t at own awaits rest) = ends_asked g asks c by rest
 
   none_from : {X Y : Type 0} (f : X → Y) (o : Option X) → option_map f o ≡ None → o ≡ None
   none_from f None is = refl

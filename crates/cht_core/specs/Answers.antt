@@ -1,13 +1,15 @@
 -- When each answer comes, and what it leaves.
-use Rattle.std.specs.Prelude.{◌≡◌, ℕ, true, false, None, Some}
+use Rattle.std.specs.Prelude.{◌≡◌, ℕ, ◌≤◌, true, false, None, Some}
 use Rattle.std.specs.FinMap as map
 use Rattle.task_types.specs.Tree.{Tree}
 use Rattle.task_types.specs.Meanings.{Meanings}
-use Rattle.task_states.specs.States.{is_stopped}
+use Rattle.task_states.specs.States.{caller_of, is_stopped, running}
 use Rattle.task_states.specs.Awaiters.{IsLeastOf, IsRunnable, IsWanted}
-use Rattle.cht_history.specs.declared.event.Event.TheVariants.{Collect as CollectEvent, Stop as StopEvent}
+use Rattle.cht_history.specs.declared.event.Event.TheVariants.{Collect as CollectEvent, Abandon as AbandonEvent, Stop as StopEvent}
 use Rattle.name_machine.specs.States.{Machine, Ask, has_ask}
 use Rattle.core_state.specs.Contents.{Contents}
+use Rattle.cht_core.specs.declared.answers.Abandoned.{Abandoned}
+use Rattle.cht_core.specs.declared.answers.Abandoned.TheVariants as abandoned
 use Rattle.cht_core.specs.declared.answers.Collected.{Collected}
 use Rattle.cht_core.specs.declared.answers.Collected.TheVariants as collected
 use Rattle.cht_core.specs.declared.answers.Idle.{Idle}
@@ -32,6 +34,12 @@ module _ {C K : Type 0} where
   abbrev pub IsNotDelivered : Machine C K → ℕ → Type 0
   IsNotDelivered machine task = (ask : Ask (Tree C) (Tree C)) → map.get machine.asks task ≡ Some ask → ask.delivered ≡ None
 
+  -- a caller has no unfinished task and no ask, and is not stopped
+  pub record HasNothingOpen (machine : Machine C K) (caller : ℕ) : Type 0 where
+    pub no_tasks : (task : ℕ) → caller_of machine.graph task ≡ Some caller → ⊥
+    pub no_asks : has_ask machine.asks caller ≡ false
+    pub goes_on : is_stopped machine.graph caller ≡ false
+
 module _ {C K : Type 0} (lib : Meanings C K) (arity : C → ℕ) (before after : Contents C K) where
   -- A collect: what is got is an event; there is nothing yet exactly where the output is not there and the caller is not stopped; and a
   -- caller that is stopped gets nothing. Nothing changes in these two cases.
@@ -46,3 +54,16 @@ module _ {C K : Type 0} (lib : Meanings C K) (arity : C → ℕ) (before after :
     pub stops : has_ask (state lib before).asks caller ≡ true → is_stopped (state lib before).graph caller ≡ false → Happens lib arity before after (StopEvent caller)
     pub nothing_asked : has_ask (state lib before).asks caller ≡ false → after ≡ before
     pub stopped_already : is_stopped (state lib before).graph caller ≡ true → after ≡ before
+
+  -- An abandon of a caller none of whose tasks is Running: an event where the caller has an ask, else nothing changes. Afterwards nothing of
+  -- the caller is open.
+  pub record IsGone (caller : ℕ) : Type 0 where
+    pub none_run : running (state lib before).graph caller ≡ 0
+    pub gives_up : has_ask (state lib before).asks caller ≡ true → Happens lib arity before after (AbandonEvent caller)
+    pub nothing_asked : has_ask (state lib before).asks caller ≡ false → after ≡ before
+    pub nothing_open : HasNothingOpen (state lib after) caller
+
+  -- An abandon: where some of the caller's tasks are Running it is told how many, and nothing changes.
+  abbrev pub IsAbandoned : ℕ → Abandoned → Type 0
+  IsAbandoned caller abandoned.Gone = IsGone caller
+  IsAbandoned caller (abandoned.StillRunning tasks) = (tasks ≡ running (state lib before).graph caller) × (1 ≤ tasks) × (after ≡ before)

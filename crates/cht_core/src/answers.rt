@@ -21,3 +21,12 @@ pub enum Collected {
     /// The caller was stopped since it asked.
     Stopped,
 }
+
+/// What becomes of a caller that gives up.
+#[derive(Clone, Copy, Debug, PartialEq, Eq)]
+pub enum Abandoned {
+    /// The caller has no unfinished task and no ask, and is not stopped.
+    Gone,
+    /// So many of its tasks are Running, and nothing changed.
+    StillRunning(u32),
+}

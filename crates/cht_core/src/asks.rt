@@ -3,9 +3,9 @@ ghost use Rattle.cht_history.specs.declared.event.Event.TheVariants.{Ask as AskE
 ghost use Rattle.name_machine.specs.States.{MayMentionAll, tree_named};
 ghost use Rattle.task_states.specs.States.{is_stopped};
 ghost use Rattle.cht_core.specs.Events.{state, Happens};
-ghost use Rattle.cht_core.specs.Answers.{HasAsked, IsCollected, IsStopped};
+ghost use Rattle.cht_core.specs.Answers.{HasAsked, IsCollected, IsStopped, IsAbandoned};
 
-use crate::answers::Collected;
+use crate::answers::{Abandoned, Collected};
 use crate::cores::Core;
 use cht_ids::{Memory, Ref, TaskNo};
 use task_types::Library;
@@ -55,5 +55,22 @@ impl<L: Library> Core<L> {
         if asked {
             self.kept.stop(c);
         }
+    }
+
+    /// A caller gives up, where none of its tasks is Running: its unfinished tasks and its asks go, with the outputs that it has not
+    /// collected, and it is not stopped. What it holds stays. Where it has no ask nothing changes. It takes no memory.
+    pub fn abandon(&mut self, c: u32) -> Abandoned
+        requires { c < self.old.callers }
+        ensures { IsAbandoned L.meanings L.Chunk.arity self.old self.new c result }
+    {
+        let running = self.kept.running(c);
+        if running > 0 {
+            return Abandoned::StillRunning(running);
+        }
+        let has_ask = self.kept.has_ask(c);
+        if has_ask {
+            self.kept.abandon(c);
+        }
+        Abandoned::Gone
     }
 }

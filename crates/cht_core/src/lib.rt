@@ -9,6 +9,6 @@ mod looking;
 mod record;
 mod workers;
 
-pub use answers::{Collected, Idle};
+pub use answers::{Abandoned, Collected, Idle};
 pub use cores::Core;
 pub use record::Record;

@@ -1,7 +1,6 @@
 -- Names without the identifiers that a test names: where what is not reached goes in between, and where one test follows another.
-use Rattle.std.proofs.Common.{◌≡◌, ℕ, inl, inr, Bool, true, false, ◌||◌, Option, None, Some, is_some, refl, sym, ap, subst, ◌∙◌}
+use Rattle.std.proofs.Common.{◌≡◌, ℕ, Bool, true, false, ◌||◌, Option, None, Some, is_some, refl, sym, ap, subst, ◌∙◌}
 use Rattle.std.specs.Option.{option_map}
-use Rattle.std.specs.FinMap as map
 use Rattle.cht_ids.specs.declared.refs.Id.{Id}
 use Rattle.cht_ids.specs.declared.refs.Ref.{Ref}
 use Rattle.cht_ids.specs.declared.refs.Ref.TheVariants.{Null, Id as Held}

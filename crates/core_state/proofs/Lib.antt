@@ -14,3 +14,4 @@ pub mod Emptied
 pub mod Ended
 pub mod TasksEnded
 pub mod OutputsEnded
+pub mod GivenUp

@@ -1,6 +1,5 @@
 -- The asks of a caller go one after the other, each with its output.
-use Rattle.std.proofs.Common.{◌≡◌, ℕ, zero, suc, ◌+◌, ◌≤◌, ◌<◌, ◌-◌, ◌⊎◌, inl, inr, Bool, true, false, cond, not, Option, None, Some, IsSome, is_some, refl, sym, ap, subst, ◌∙◌, arith}
-use Rattle.std.specs.List.{list_any}
+use Rattle.std.proofs.Common.{◌≡◌, ℕ, ◌+◌, ◌≤◌, ◌<◌, ◌-◌, ◌⊎◌, inl, inr, true, false, cond, not, Option, None, Some, IsSome, is_some, refl, sym, ap, subst, ◌∙◌, arith}
 use Rattle.std.specs.Ordering.{nat_cmp}
 use Rattle.std.specs.Cmp.{nat_cmp_total}
 use Rattle.std.specs.FinMap as map
@@ -12,7 +11,7 @@ use Rattle.name_states.specs.declared.holder.Holder.TheVariants.{Caller as ByCal
 use Rattle.name_states.specs.States.{NameState, IdRecord, id_at}
 use Rattle.name_states.specs.Reached.{swept}
 use Rattle.name_states.specs.Rules.{IsSound, AreReached}
-use Rattle.name_states.proofs.Basics.{none_not_some, none_or_some, same_some, same_options, same_or_not, test_same, removed_other, removed_from}
+use Rattle.name_states.proofs.Basics.{none_not_some, none_or_some, same_some, same_options, removed_other, removed_from}
 use Rattle.name_states.proofs.Reaching.{sound-down}
 use Rattle.task_states.specs.Maps.{kept}
 use Rattle.task_states.proofs.Maps.{same_maps}
@@ -120,14 +119,15 @@ module _ {C : Type 0} where
         still_holds = record {
           outputs = λ key ask r is own delivered.
               let was = removed_from rest task key ask is in
-              let out = remains.holds.outputs key ask r was.1 own delivered in
-              (still_ref now (is_number_of (ref_delivered output)) (ByCaller caller) r (sound-down arity now sound) tt out.0
-              (λ id entry r_is found held.
-              not_its_number (ref_delivered output) id.number (Some entry) (λ other its same.
-              let mine : id.number ≡ ask.number = subst (HasNumber ask.number) r_is out.1 in
-              let theirs = its_number output other (sym output_is) its in
-              was.0 (remains.holds.differ key task ask one.ask was.1 one.there own one.own (sym mine ∙ same ∙ theirs)))),
-              out.1);
+              let out = remains.holds.outputs key ask r was.1 own delivered in (
+                still_ref now (is_number_of (ref_delivered output)) (ByCaller caller) r (sound-down arity now sound) tt out.0
+                    (λ id entry r_is found held.
+                    not_its_number (ref_delivered output) id.number (Some entry) (λ other its same.
+                    let mine : id.number ≡ ask.number = subst (HasNumber ask.number) r_is out.1 in
+                    let theirs = its_number output other (sym output_is) its in
+                    was.0 (remains.holds.differ key task ask one.ask was.1 one.there own one.own (sym mine ∙ same ∙ theirs)))),
+                out.1,
+              );
           free = λ key ask is own none.
               still_none now (is_number_of (ref_delivered output)) ask.number (remains.holds.free key ask (removed_from rest task key ask is).1 own none);
           differ = λ key other a b first second mine theirs same.
@@ -189,19 +189,22 @@ module _ {C : Type 0} where
                   ∙ remains.others key ask is other;
               waits = λ number entry is out.
                   let was = was_at now (is_number_of (ref_delivered output)) number entry is in
-                  let by = remains.waits number entry was.0 out in
-                  (by.0, by.1,
-                  removed_other rest task by.0 (λ same.
-                  let ask_is : by.1 ≡ one.ask = same_some by.1 one.ask (sym by.2 ∙ ap (map.get rest) same ∙ one.there) in
-                  let number_is : one.ask.number ≡ number = ap (λ (a : Ask (Unit {0}) Ref). a.number) (sym ask_is) ∙ by.4 in
-                  elim (held_or_not output) [
-                    | inl held ↦
-                        let at : number ≡ held.0.number = sym number_is ∙ sym (its_number output held.0 (sym output_is) held.1) in
-                        let clash : true ≡ false = sym (is_its_number (ref_delivered output) held.0 (Some entry) held.1) ∙ ap (λ n. is_number_of (ref_delivered output) n (Some entry)) (sym at) ∙ was.1 in
-                        cc
-                    | inr none ↦ none_not_some (remains.holds.free task one.ask one.there one.own (subst HasNoOutput output_is none)) (ap (id_at now) number_is ∙ was.0)
-                  ]) ∙ by.2,
-                  by.3, by.4);
+                  let by = remains.waits number entry was.0 out in (
+                    by.0,
+                    by.1,
+                    removed_other rest task by.0 (λ same.
+                        let ask_is : by.1 ≡ one.ask = same_some by.1 one.ask (sym by.2 ∙ ap (map.get rest) same ∙ one.there) in
+                        let number_is : one.ask.number ≡ number = ap (λ (a : Ask (Unit {0}) Ref). a.number) (sym ask_is) ∙ by.4 in
+                        elim (held_or_not output) [
+                          | inl held ↦
+                              let at : number ≡ held.0.number = sym number_is ∙ sym (its_number output held.0 (sym output_is) held.1) in
+                              let clash : true ≡ false = sym (is_its_number (ref_delivered output) held.0 (Some entry) held.1) ∙ ap (λ n. is_number_of (ref_delivered output) n (Some entry)) (sym at) ∙ was.1 in
+                              cc
+                          | inr none ↦ none_not_some (remains.holds.free task one.ask one.there one.own (subst HasNoOutput output_is none)) (ap (id_at now) number_is ∙ was.0)
+                        ]) ∙ by.2,
+                    by.3,
+                    by.4,
+                  );
               less = let was = remains.less in omega arith;
               due = let less = due_less in let was = remains.due in omega arith;
             }))

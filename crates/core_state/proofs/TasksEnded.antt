@@ -1,5 +1,5 @@
 -- The identifiers that a task holds go one input after the other, and those of a caller's tasks one task after the other.
-use Rattle.std.proofs.Common.{◌≡◌, ℕ, zero, suc, ◌+◌, ◌-◌, ◌^◌, ◌≤◌, ◌<◌, inl, inr, Bool, true, false, List, [], ◌∷◌, length, slice_get, Option, None, Some, IsSome, is_some, refl, sym, ap, subst, ◌∙◌, arith}
+use Rattle.std.proofs.Common.{◌≡◌, ℕ, zero, suc, ◌+◌, ◌-◌, ◌^◌, ◌≤◌, ◌<◌, inl, inr, true, false, List, [], ◌∷◌, slice_get, Option, None, Some, IsSome, is_some, refl, sym, ap, subst, ◌∙◌, arith}
 use Rattle.std.specs.Option.{option_map}
 use Rattle.cht_ids.specs.declared.refs.Id.{Id}
 use Rattle.cht_ids.specs.declared.refs.Ref.{Ref}
@@ -140,16 +140,17 @@ module _ {C K : Type 0} (graph : Graph Ref K) where
               apart = left.holds.apart;
               nothing_else = λ number entry found held.
                   let was = was_at now (is_number_of (ref_in slot)) number entry found in
-                  let input = left.holds.nothing_else number entry was.0 held in
-                  (input.0,
-                  elim (same_or_not input.0 place) [
-                    | inl here ↦
-                        let id : Id = record { owner = entry.owner; number = number } in
-                        let its : ref_in slot ≡ Held id = known_from slot id (same_some (input_of slot) (Known (Held id)) (sym is ∙ ap (input_at graph task) (sym here) ∙ input.2)) in
-                        absurd (let clash : true ≡ false = sym (is_its_number (ref_in slot) id (Some entry) its) ∙ was.1 in cc)
-                    | inr apart ↦ let above = input.1 in omega arith
-                  ],
-                  input.2);
+                  let input = left.holds.nothing_else number entry was.0 held in (
+                    input.0,
+                    elim (same_or_not input.0 place) [
+                      | inl here ↦
+                          let id : Id = record { owner = entry.owner; number = number } in
+                          let its : ref_in slot ≡ Held id = known_from slot id (same_some (input_of slot) (Known (Held id)) (sym is ∙ ap (input_at graph task) (sym here) ∙ input.2)) in
+                          absurd (let clash : true ≡ false = sym (is_its_number (ref_in slot) id (Some entry) its) ∙ was.1 in cc)
+                      | inr apart ↦ let above = input.1 in omega arith
+                    ],
+                    input.2,
+                  );
             };
             few = omega arith;
           })

@@ -1,6 +1,5 @@
 // What goes where a caller gives up.
-ghost use Rattle.std.specs.Prelude.{◌≡◌, ℕ, ◌+◌, ◌≤◌, ◌<◌, [], cond, not, length, option_map, Some, None, IsSome, true, false};
-ghost use Rattle.std.specs.FinMap as map;
+ghost use Rattle.std.specs.Prelude.{◌≡◌, ℕ, ◌+◌, ◌≤◌, ◌<◌, [], cond, not, length, Some, IsSome, true};
 ghost use Rattle.task_states.specs.Maps.{kept};
 ghost use Rattle.task_states.specs.States.{task_at, caller_of, running as running_in};
 ghost use Rattle.cht_history.specs.declared.event.Event.TheVariants.{Abandon};

@@ -1,6 +1,4 @@
-use Rattle.std.proofs.Common.{◌≡◌, ◌≤◌, ◌-◌, ◌+◌, is_some, refl, sym, ap, subst, ◌∙◌, arith, false}
-use Rattle.std.specs.FinMap as map
-use Rattle.name_machine.specs.States.{has_ask}
+use Rattle.std.proofs.Common.{◌≤◌, ◌-◌, is_some, refl, sym, ap, subst, ◌∙◌, arith}
 use Rattle.core_state.specs.Ended.{due_for_ended}
 use Rattle.core_state.proofs.OutputsEnded.{asks_fewer, asks_start, output_outside, owed_for_output, asks_step, asks_end, asks_left}
 use Rattle.core_state.proofs.abandoning.end_asks.Goals as goal

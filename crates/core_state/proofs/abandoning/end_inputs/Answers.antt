@@ -1,5 +1,5 @@
-use Rattle.std.proofs.Common.{sym, ap, ◌∙◌, Some}
-use Rattle.core_state.proofs.TasksEnded.{input_outside, inputs_start, inputs_step, inputs_end}
+use Rattle.std.proofs.Common.{sym, ◌∙◌}
+use Rattle.core_state.proofs.TasksEnded.{input_outside, inputs_step, inputs_end}
 use Rattle.core_state.proofs.abandoning.end_inputs.Goals as goal
 
 pub end_input-requires-after_bounds : goal.end_input-requires-after_bounds

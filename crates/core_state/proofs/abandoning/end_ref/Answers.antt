@@ -1,4 +1,4 @@
-use Rattle.std.proofs.Common.{sym, ap, subst, ◌∙◌}
+use Rattle.std.proofs.Common.{sym, ap, ◌∙◌}
 use Rattle.name_states.specs.Reached.{swept}
 use Rattle.name_machine.specs.Control.{without_ids}
 use Rattle.core_state.specs.Ended.{is_number_of}

@@ -1,5 +1,5 @@
 use Rattle.std.proofs.Common.{subst, ◌∙◌}
-use Rattle.core_state.proofs.TasksEnded.{TasksLeft, tasks_start, tasks_step, tasks_end, is_there, nearer}
+use Rattle.core_state.proofs.TasksEnded.{TasksLeft, tasks_step, tasks_end}
 use Rattle.core_state.proofs.abandoning.end_tasks.Goals as goal
 
 pub loop-next-preserved : goal.loop-next-preserved
