@@ -18,7 +18,7 @@ import tempfile
 
 from parts import built
 
-CRATES = ["cht_ids", "task_states", "task_graph"]
+CRATES = ["cht_ids", "task_states", "task_links", "task_graph"]
 PARTS = [
     ("main.rt.txt", "src/main.rt"),
     ("Below.antt.txt", "specs/Below.antt"),

@@ -14,7 +14,6 @@ ghost use Rattle.task_states.specs.Steps.{all_delivered};
 ghost use Rattle.task_states.specs.Listing.{awaiters};
 ghost use Rattle.task_graph.specs.Contents.{input_of};
 ghost use Rattle.chunk_refs.specs.Room.{workers_of, spare_of};
-ghost use Rattle.name_machine.specs.NewTasks.{number_at};
 ghost use Rattle.name_machine.specs.Control.{ref_known, with_number, copies_of, awaiting, answered_with, resolved_to, tidied, after_finish};
 ghost use Rattle.core_steps.specs.Begin.{CanFinish};
 ghost use Rattle.core_steps.specs.Conditions.{RunsTask, bodies_of, finish_of};

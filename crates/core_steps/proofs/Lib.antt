@@ -1,9 +1,6 @@
 pub mod ChunksFormed
 pub mod Places
 pub mod Registering
-mod Delivering
-pub mod Awaited
-pub mod Resolved
 mod Endings
 pub mod Course
 pub mod Exact
@@ -13,3 +10,6 @@ pub mod EndOfFinish
 pub mod Holding
 pub mod Adding
 pub mod ReadyForTasks
+mod Delivering
+pub mod Awaited
+pub mod Resolved

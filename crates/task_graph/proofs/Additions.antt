@@ -14,20 +14,20 @@ use Rattle.task_states.specs.Awaiters.{IsFree}
 use Rattle.task_states.proofs.Maps.{same_or_not, test_same, test_apart, same_maps, get_inserted}
 use Rattle.task_states.proofs.Options.{map_behind, not_none, same_some}
 use Rattle.task_states.proofs.Changes.{get_changed}
-use Rattle.task_graph.specs.declared.entries.Entry.{Entry}
-use Rattle.task_graph.specs.declared.entries.Spot.{Spot}
+use Rattle.task_links.specs.declared.entries.Entry.{Entry}
+use Rattle.task_links.specs.declared.entries.Spot.{Spot}
 use Rattle.task_graph.specs.declared.parts.Parts.{Parts}
 use Rattle.task_graph.specs.Graphs.{graph_of, IsWhole}
 use Rattle.task_graph.proofs.Marking.{unused_of}
 use Rattle.task_graph.proofs.Runs.{task_is}
-use Rattle.task_graph.specs.declared.entries.Link.{Link}
-use Rattle.task_graph.specs.declared.entries.Place.{Place}
-use Rattle.task_graph.specs.declared.entries.Place.TheVariants.{Known as KnownPlace, Awaits as AwaitsPlace}
-use Rattle.task_graph.specs.Inside.{shown_place, shown_entry, entries_at, inputs_of, place_in, place_at}
-use Rattle.task_graph.specs.Weave.{Head, link_of, link_at, head_at, head_of, IsAtHome, IsUnused, IsUnasked, IsTied}
+use Rattle.task_links.specs.declared.entries.Link.{Link}
+use Rattle.task_links.specs.declared.entries.Place.{Place}
+use Rattle.task_links.specs.declared.entries.Place.TheVariants.{Known as KnownPlace, Awaits as AwaitsPlace}
+use Rattle.task_links.specs.Inside.{shown_place, shown_entry, entries_at, inputs_of, place_in, place_at}
+use Rattle.task_links.specs.Weave.{Head, link_of, link_at, head_at, head_of, IsAtHome, IsUnused, IsUnasked, IsTied}
 use Rattle.task_graph.specs.Contents.{input_of, AreOf, AreFree, IsNumberOfNone}
 use Rattle.task_graph.specs.Adding.{known_place, bare_input, mixed, IsAdding}
-use Rattle.task_graph.proofs.Weaving.{same_spot}
+use Rattle.task_links.proofs.Weaving.{same_spot}
 
 abbrev tail_of : {X : Type 0} → List X → List X
 tail_of [] = []

@@ -13,18 +13,18 @@ use Rattle.task_states.specs.Steps.{removed}
 use Rattle.task_states.specs.Awaiters.{IsAsked, IsAwaiter, IsNotAwaited, IsLeastAwaiter}
 use Rattle.task_states.proofs.Maps.{same_or_not, test_same, test_apart, same_maps, get_inserted, get_removed}
 use Rattle.task_states.proofs.Options.{not_none, same_some}
-use Rattle.task_graph.specs.declared.entries.Entry.{Entry}
-use Rattle.task_graph.specs.declared.entries.Link.{Link}
-use Rattle.task_graph.specs.declared.entries.Place.{Place}
-use Rattle.task_graph.specs.declared.entries.Place.TheVariants.{Known, Awaits}
-use Rattle.task_graph.specs.declared.entries.Spot.{Spot}
+use Rattle.task_links.specs.declared.entries.Entry.{Entry}
+use Rattle.task_links.specs.declared.entries.Link.{Link}
+use Rattle.task_links.specs.declared.entries.Place.{Place}
+use Rattle.task_links.specs.declared.entries.Place.TheVariants.{Known, Awaits}
+use Rattle.task_links.specs.declared.entries.Spot.{Spot}
 use Rattle.task_graph.specs.declared.parts.Parts.{Parts}
-use Rattle.task_graph.specs.Inside.{put_in, shown_entry, shown_place, entries_at, place_in, place_at, inputs_of}
-use Rattle.task_graph.specs.Weave.{Leads, row_of, head_at, head_of, link_at, link_of}
+use Rattle.task_links.specs.Inside.{put_in, shown_entry, shown_place, entries_at, place_in, place_at, inputs_of}
+use Rattle.task_links.specs.Weave.{Leads, row_of, head_at, head_of, link_at, link_of}
 use Rattle.task_graph.specs.Graphs.{graph_of, IsWhole, IsIdle, with_revised}
-use Rattle.task_graph.proofs.Chains.{row_with, same_key}
-use Rattle.task_graph.proofs.Weaving.{row_is, link_is}
-use Rattle.task_graph.proofs.Writing.{awaits_behind}
+use Rattle.task_links.proofs.Chains.{row_with, same_key}
+use Rattle.task_links.proofs.Weaving.{row_is, link_is}
+use Rattle.task_links.proofs.Writing.{awaits_behind}
 use Rattle.task_graph.proofs.Marking.{input_is}
 use Rattle.task_graph.proofs.Runs.{task_is, task_there, status_there}
 

@@ -3,8 +3,8 @@ use Rattle.std.proofs.Common.{◌≡◌, ℕ, ◌≤◌, true, false, ◌||◌, 
 use Rattle.task_states.specs.States.{Graph}
 use Rattle.task_states.specs.Awaiters.{IsRunnable}
 use Rattle.task_states.proofs.Maps.{same_or_not, test_same, test_apart}
-use Rattle.task_graph.specs.declared.queue.Queue.{Queue}
-use Rattle.task_graph.specs.Queue.{is_queued, IsQueueLeast}
+use Rattle.task_links.specs.declared.queue.Queue.{Queue}
+use Rattle.task_links.specs.Queue.{is_queued, IsQueueLeast}
 
 pub same_least : (queue : Queue) (a b : ℕ) → IsQueueLeast queue (Some a) → IsQueueLeast queue (Some b) → a ≡ b
 same_least queue a b one two =

@@ -17,20 +17,20 @@ use Rattle.task_states.specs.Maps.{put_at, kept}
 use Rattle.task_states.proofs.Options.{map_id, not_none, same_some, map_behind}
 use Rattle.task_states.proofs.Changes.{tasks_changed}
 use Rattle.std.specs.Prelude.{set}
-use Rattle.task_graph.specs.declared.callers.Callers.{Callers}
-use Rattle.task_graph.specs.Inside.{with_input}
-use Rattle.task_graph.specs.declared.callers.Caller.{Caller}
-use Rattle.task_graph.specs.declared.entries.Entry.{Entry}
-use Rattle.task_graph.specs.declared.entries.Entries.{Entries}
-use Rattle.task_graph.specs.declared.entries.Link.{Link}
-use Rattle.task_graph.specs.declared.entries.Spot.{Spot}
+use Rattle.task_links.specs.declared.callers.Callers.{Callers}
+use Rattle.task_links.specs.Inside.{with_input}
+use Rattle.task_links.specs.declared.callers.Caller.{Caller}
+use Rattle.task_links.specs.declared.entries.Entry.{Entry}
+use Rattle.task_links.specs.declared.entries.Entries.{Entries}
+use Rattle.task_links.specs.declared.entries.Link.{Link}
+use Rattle.task_links.specs.declared.entries.Spot.{Spot}
 use Rattle.task_graph.specs.declared.parts.Parts.{Parts}
-use Rattle.task_graph.specs.Weave.{Head, IsWoven, IsBeside, IsInserted, IsWithout, Middle, link_of, link_at, head_at, head_of, count_of}
-use Rattle.task_graph.specs.Inside.{shown_entry, shown_at, entries_at, place_in, station_at}
-use Rattle.task_graph.specs.Callers.{caller_at, bounds_at, bounds_of, load_at, load_of, Load}
-use Rattle.task_graph.specs.Order.{IsOrdered}
+use Rattle.task_links.specs.Weave.{Head, IsWoven, IsBeside, IsInserted, IsWithout, Middle, link_of, link_at, head_at, head_of, count_of}
+use Rattle.task_links.specs.Inside.{shown_entry, shown_at, entries_at, place_in, station_at}
+use Rattle.task_links.specs.Callers.{caller_at, bounds_at, bounds_of, load_at, load_of, Load}
+use Rattle.task_links.specs.Order.{IsOrdered}
 use Rattle.task_graph.specs.Graphs.{tasks_of, graph_of, stopped_from, IsWhole, IsIdle, IsBare}
-use Rattle.task_graph.proofs.Weaving.{left-woven}
+use Rattle.task_links.proofs.Weaving.{left-woven}
 use Rattle.task_graph.proofs.Counting.{count_changed, passes}
 use Rattle.task_graph.proofs.Views.{has-stopped, flag, has_inserted, has}
 use Rattle.task_graph.proofs.Revising.{same_stopped}

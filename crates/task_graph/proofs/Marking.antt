@@ -14,22 +14,22 @@ use Rattle.task_states.specs.Awaiters.{IsFree}
 use Rattle.task_states.specs.Maps.{put_at}
 use Rattle.std.specs.List.{IsDistinct}
 use Rattle.std.specs.Map.{keys_of}
-use Rattle.task_graph.specs.declared.callers.Caller.{Caller}
-use Rattle.task_graph.specs.Callers.{caller_at}
+use Rattle.task_links.specs.declared.callers.Caller.{Caller}
+use Rattle.task_links.specs.Callers.{caller_at}
 use Rattle.task_graph.proofs.Counting.{count_changed, count_less, passes}
 use Rattle.task_graph.proofs.Views.{len-tasks_of}
 use Rattle.task_states.proofs.Maps.{test_same, test_apart, get_removed}
 use Rattle.task_states.proofs.Options.{not_none, same_some, none_or_some}
-use Rattle.task_graph.specs.declared.entries.Entry.{Entry}
-use Rattle.task_graph.specs.declared.entries.Link.{Link}
-use Rattle.task_graph.specs.declared.entries.Place.{Place}
-use Rattle.task_graph.specs.declared.entries.Place.TheVariants.{Awaits}
-use Rattle.task_graph.specs.declared.entries.Spot.{Spot}
+use Rattle.task_links.specs.declared.entries.Entry.{Entry}
+use Rattle.task_links.specs.declared.entries.Link.{Link}
+use Rattle.task_links.specs.declared.entries.Place.{Place}
+use Rattle.task_links.specs.declared.entries.Place.TheVariants.{Awaits}
+use Rattle.task_links.specs.declared.entries.Spot.{Spot}
 use Rattle.task_graph.specs.declared.parts.Parts.{Parts}
-use Rattle.task_graph.specs.Inside.{shown_entry, shown_place, entries_at, place_in, place_at, inputs_of}
-use Rattle.task_graph.specs.Weave.{Head, link_at, link_of, head_of, head_at, IsUnused}
+use Rattle.task_links.specs.Inside.{shown_entry, shown_place, entries_at, place_in, place_at, inputs_of}
+use Rattle.task_links.specs.Weave.{Head, link_at, link_of, head_of, head_at, IsUnused}
 use Rattle.task_graph.specs.Graphs.{graph_of, tasks_of, IsWhole, IsRevised, run_for}
-use Rattle.task_graph.proofs.Writing.{awaits_behind}
+use Rattle.task_links.proofs.Writing.{awaits_behind}
 use Rattle.task_graph.proofs.Runs.{task_is, task_there, status_there, status_none}
 
 some_of : {K : Type 0} (o : Option (Entry K)) → IsSome (option_map shown_entry o) → IsSome o

@@ -11,19 +11,19 @@ use Rattle.task_states.specs.Maps.{each_changed}
 use Rattle.task_states.proofs.Maps.{same_or_not, test_same, test_apart, same_maps, get-each_changed}
 use Rattle.task_states.proofs.Options.{not_none, same_some, none_or_some, map_behind}
 use Rattle.task_states.proofs.Changes.{get_changed}
-use Rattle.task_graph.specs.declared.entries.Entry.{Entry}
-use Rattle.task_graph.specs.declared.entries.Link.{Link}
-use Rattle.task_graph.specs.declared.entries.Spot.{Spot}
+use Rattle.task_links.specs.declared.entries.Entry.{Entry}
+use Rattle.task_links.specs.declared.entries.Link.{Link}
+use Rattle.task_links.specs.declared.entries.Spot.{Spot}
 use Rattle.task_graph.specs.declared.parts.Parts.{Parts}
-use Rattle.task_graph.specs.Inside.{entries_at, shown_entry, place_at}
-use Rattle.task_graph.specs.Weave.{Head, Leads, row_of, head_at, head_of, link_at, IsFirst, IsUnused, rest_in, rest_from, rest_after, rest_first}
+use Rattle.task_links.specs.Inside.{entries_at, shown_entry, place_at}
+use Rattle.task_links.specs.Weave.{Head, Leads, row_of, head_at, head_of, link_at, IsFirst, IsUnused, rest_in, rest_from, rest_after, rest_first}
 use Rattle.task_graph.specs.Graphs.{graph_of, IsWhole}
 use Rattle.task_graph.specs.Moving.{IsInputMoved, IsTaskMoved, AreMoved, IsMovable, IsMoved}
-use Rattle.task_graph.proofs.Chains.{same_key}
-use Rattle.task_graph.proofs.Weaving.{row_is, link_is}
+use Rattle.task_links.proofs.Chains.{same_key}
+use Rattle.task_links.proofs.Weaving.{row_is, link_is}
 use Rattle.task_graph.proofs.Awaiting.{first_link, no_input}
 use Rattle.task_graph.proofs.Marking.{input_is}
-use Rattle.task_graph.proofs.Writing.{awaits_behind}
+use Rattle.task_links.proofs.Writing.{awaits_behind}
 use Rattle.task_graph.proofs.Runs.{task_is, task_there}
 
 set_set : {X : Type 0} (xs : List X) (j : ℕ) (v w : X) → set (set xs j v) j w ≡ set xs j w

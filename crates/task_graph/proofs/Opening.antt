@@ -13,19 +13,20 @@ use Rattle.task_states.specs.States.{Unfinished, no_tasks, task_at, is_run_for}
 use Rattle.task_states.specs.Awaiters.{IsRunnable}
 use Rattle.task_states.proofs.Maps.{len-kept}
 use Rattle.task_states.proofs.Options.{not_none, same_some, map_behind}
-use Rattle.task_graph.specs.declared.callers.Caller.{Caller}
-use Rattle.task_graph.specs.declared.entries.Entry.{Entry}
-use Rattle.task_graph.specs.declared.entries.Spot.{Spot}
+use Rattle.task_links.specs.declared.callers.Caller.{Caller}
+use Rattle.task_links.specs.declared.entries.Spot.{Spot}
 use Rattle.task_graph.specs.declared.held.Held.{Held}
 use Rattle.task_graph.specs.declared.parts.Parts.{Parts}
-use Rattle.task_graph.specs.Inside.{entries_at, place_in, station_at, station_of}
-use Rattle.task_graph.specs.Callers.{caller_at, bounds_at, bounds_of}
-use Rattle.task_graph.specs.Weave.{Head, Leads, head_at, head_of, link_at, link_of}
-use Rattle.task_graph.specs.Order.{Bounds, row_at, IsTail}
+use Rattle.task_links.specs.declared.kept.Kept.{Kept}
+use Rattle.task_links.specs.Kept.{opened}
+use Rattle.task_links.specs.Inside.{entries_at, place_in, station_at, station_of}
+use Rattle.task_links.specs.Callers.{caller_at, bounds_at, bounds_of}
+use Rattle.task_links.specs.Weave.{Head, Leads, head_at, head_of, link_at, link_of}
+use Rattle.task_links.specs.Order.{Bounds, row_at, IsTail}
 use Rattle.std.specs.Map.{lookup}
 use Rattle.task_graph.specs.Graphs.{tasks_of, graph_of, stopped_from, IsWhole, IsHeld}
-use Rattle.task_graph.specs.Queue.{is_queued, IsQueue}
-use Rattle.task_graph.proofs.Orders.{station_of_row}
+use Rattle.task_links.specs.Queue.{is_queued, IsQueue}
+use Rattle.task_links.proofs.Orders.{station_of_row}
 use Rattle.task_graph.proofs.Views.{has-stopped, flag}
 
 abbrev no_row : Caller
@@ -36,13 +37,13 @@ past [] q low = refl
 past (r ∷ rows) zero low = absurd (omega arith)
 past (r ∷ rows) (suc q) low = past rows q (omega arith)
 
-tasks-none : {K : Type 0} (es : List (ℕ × Entry K)) → es ≡ [] → tasks_of es ≡ map.empty
+tasks-none : {K : Type 0} (es : List (ℕ × Kept K)) → es ≡ [] → tasks_of es ≡ map.empty
 unfolding tasks_of
 tasks-none es is = ap (λ xs. tasks_of xs) is
 
 module _ {K : Type 0} (parts : Parts K) (none : parts.entries.tasks.entries ≡ []) (rows : (c : ℕ) → c < 64 → caller_at parts.callers c ≡ Some (record { first = None; last = None; running = 0; stopped = false })) (len : length parts.callers.rows ≡ 64) where
   entry_none : (q : ℕ) → entries_at parts.entries q ≡ None
-  entry_none q = ap (λ es. lookup (nat_eq q) es) none
+  entry_none q = ap (λ es. option_map opened (lookup (nat_eq q) es)) none
 
   head_none : (q : ℕ) (h : Head) → head_at (entries_at parts.entries) q ≡ Some h → ⊥
   head_none q h is = not_none (head_at (entries_at parts.entries) q) h (ap (option_map head_of) (entry_none q)) is

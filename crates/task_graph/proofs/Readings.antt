@@ -8,19 +8,19 @@ use Rattle.cht_ids.specs.declared.refs.Ref.{Ref}
 use Rattle.task_states.specs.States.{Input, Unfinished, task_at, caller_of, input_at, is_stopped}
 use Rattle.task_states.specs.Awaiters.{IsLeastOf, IsLater, IsRunnable, IsWanted}
 use Rattle.task_states.proofs.Options.{not_none, same_some, none_or_some, map_behind}
-use Rattle.task_graph.specs.declared.callers.Caller.{Caller}
-use Rattle.task_graph.specs.declared.entries.Entry.{Entry}
+use Rattle.task_links.specs.declared.callers.Caller.{Caller}
+use Rattle.task_links.specs.declared.entries.Entry.{Entry}
 use Rattle.task_graph.specs.declared.held.Held.{Held}
 use Rattle.task_graph.specs.declared.parts.Parts.{Parts}
-use Rattle.task_graph.specs.Inside.{Station, inputs_of, shown_place, entries_at, shown_entry, station_at, station_of}
-use Rattle.task_graph.specs.Callers.{caller_at, bounds_of}
-use Rattle.task_graph.specs.Weave.{Leads}
-use Rattle.task_graph.specs.Order.{row_at, IsTail}
+use Rattle.task_links.specs.Inside.{Station, inputs_of, shown_place, entries_at, shown_entry, station_at, station_of}
+use Rattle.task_links.specs.Callers.{caller_at, bounds_of}
+use Rattle.task_links.specs.Weave.{Leads}
+use Rattle.task_links.specs.Order.{row_at, IsTail}
 use Rattle.task_graph.specs.Graphs.{graph_of, IsWhole, IsHeld}
-use Rattle.task_graph.specs.Queue.{IsQueueLeast}
+use Rattle.task_links.specs.Queue.{IsQueueLeast}
 use Rattle.task_graph.specs.Reading.{IsCeiling, HasWanted, is_wanted, rest_to}
-use Rattle.task_graph.proofs.Chains.{row_with}
-use Rattle.task_graph.proofs.Orders.{row_of_station, station_of_row}
+use Rattle.task_links.proofs.Chains.{row_with}
+use Rattle.task_links.proofs.Orders.{row_of_station, station_of_row}
 use Rattle.task_graph.proofs.Moves.{entry_of_caller, get_each}
 use Rattle.task_graph.proofs.Runs.{task_is, task_there, stopped_is}
 

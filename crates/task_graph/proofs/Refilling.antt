@@ -10,10 +10,11 @@ use Rattle.std.proofs.lemmas.Map.Entries.{place_from_lookup, lookup_from_place}
 use Rattle.task_states.specs.declared.states.TaskStatus.TheVariants.{Ready}
 use Rattle.task_states.specs.States.{status_of}
 use Rattle.task_states.proofs.Options.{not_none, same_some}
-use Rattle.task_graph.specs.declared.entries.Entry.{Entry}
-use Rattle.task_graph.specs.declared.queue.Queue.{Queue}
-use Rattle.task_graph.specs.Inside.{shown_entry}
-use Rattle.task_graph.specs.Queue.{is_queued, queue_len}
+use Rattle.task_links.specs.declared.kept.Kept.{Kept}
+use Rattle.task_links.specs.Kept.{opened}
+use Rattle.task_links.specs.declared.queue.Queue.{Queue}
+use Rattle.task_links.specs.Inside.{shown_entry}
+use Rattle.task_links.specs.Queue.{is_queued, queue_len}
 use Rattle.task_graph.specs.Graphs.{IsRefilled}
 
 get_past : {X : Type 0} (front : List X) (x : X) (rest : List X) → slice_get (front ++ x ∷ rest) (length front) ≡ Some x
@@ -39,8 +40,8 @@ get_one [] x (suc i) y is = absurd (not_none None y refl is)
 get_one (z ∷ front) x zero y is = inl is
 get_one (z ∷ front) x (suc i) y is = get_one front x i y is
 
-module _ {K : Type 0} (entries : List (ℕ × Entry K)) where
-  pub refill_start : (rest : List (ℕ × Entry K)) (ready : Queue) → rest ≡ entries → queue_len ready ≡ 0 → IsRefilled entries rest ready
+module _ {K : Type 0} (entries : List (ℕ × Kept K)) where
+  pub refill_start : (rest : List (ℕ × Kept K)) (ready : Queue) → rest ≡ entries → queue_len ready ≡ 0 → IsRefilled entries rest ready
   refill_start rest ready is len = record {
     front = [];
     whole = is;
@@ -48,19 +49,19 @@ module _ {K : Type 0} (entries : List (ℕ × Entry K)) where
     queued = λ i q entry at. absurd (not_none None (q, entry) refl at);
   }
 
-  pub refill_room : (q : ℕ) (e : Entry K) (all rest : List (ℕ × Entry K)) (ready : Queue) → all ≡ (q, e) ∷ rest → IsRefilled entries all ready → queue_len ready < length entries
+  pub refill_room : (q : ℕ) (e : Kept K) (all rest : List (ℕ × Kept K)) (ready : Queue) → all ≡ (q, e) ∷ rest → IsRefilled entries all ready → queue_len ready < length entries
   refill_room q e all rest ready is r =
       let more = length_more r.front (q, e) rest in
       let low = r.count in
       subst (λ xs. queue_len ready < length xs) (ap (λ xs. r.front ++ xs) (sym is) ∙ r.whole) (omega arith)
 
-  pub refill_at : (q : ℕ) (e : Entry K) (all rest : List (ℕ × Entry K)) (ready : Queue) → all ≡ (q, e) ∷ rest → IsRefilled entries all ready → IsDistinct nat_eq (keys_of entries) → lookup (nat_eq q) entries ≡ Some e
+  pub refill_at : (q : ℕ) (e : Kept K) (all rest : List (ℕ × Kept K)) (ready : Queue) → all ≡ (q, e) ∷ rest → IsRefilled entries all ready → IsDistinct nat_eq (keys_of entries) → lookup (nat_eq q) entries ≡ Some e
   refill_at q e all rest ready is r distinct =
       lookup_from_place nat_eq_equiv entries (length r.front) q e distinct
       (ap (λ xs. slice_get xs (length r.front)) (sym (ap (λ xs. r.front ++ xs) (sym is) ∙ r.whole)) ∙ get_past r.front (q, e) rest)
 
-  pub refill_step : (q : ℕ) (e : Entry K) (all rest : List (ℕ × Entry K)) (old new : Queue) → all ≡ (q, e) ∷ rest → IsRefilled entries all old
-      → (status_of (shown_entry e) ≡ Ready → is_queued q new ≡ true) → ((k : ℕ) → is_queued k old ≡ true → is_queued k new ≡ true) → queue_len new ≤ queue_len old + 1 → IsRefilled entries rest new
+  pub refill_step : (q : ℕ) (e : Kept K) (all rest : List (ℕ × Kept K)) (old new : Queue) → all ≡ (q, e) ∷ rest → IsRefilled entries all old
+      → (status_of (shown_entry (opened e)) ≡ Ready → is_queued q new ≡ true) → ((k : ℕ) → is_queued k old ≡ true → is_queued k new ≡ true) → queue_len new ≤ queue_len old + 1 → IsRefilled entries rest new
   refill_step q e all rest old new is r here kept len = record {
     front = r.front ++ (q, e) ∷ [];
     whole = regroup r.front (q, e) rest ∙ ap (λ xs. r.front ++ xs) (sym is) ∙ r.whole;
@@ -68,13 +69,13 @@ module _ {K : Type 0} (entries : List (ℕ × Entry K)) where
     queued = λ i k entry at ready. elim (get_one r.front (q, e) i (k, entry) at) [
       | inl before ↦ kept k (r.queued i k entry before ready)
       | inr same ↦
-          let key : q ≡ k = ap (λ (p : ℕ × Entry K). p.0) same in
-          let value : e ≡ entry = ap (λ (p : ℕ × Entry K). p.1) same in
-          subst (λ n. is_queued n new ≡ true) key (here (ap (λ x. status_of (shown_entry x)) value ∙ ready))
+          let key : q ≡ k = ap (λ (p : ℕ × Kept K). p.0) same in
+          let value : e ≡ entry = ap (λ (p : ℕ × Kept K). p.1) same in
+          subst (λ n. is_queued n new ≡ true) key (here (ap (λ x. status_of (shown_entry (opened x))) value ∙ ready))
     ];
   }
 
-  pub refill_end : (rest : List (ℕ × Entry K)) (ready : Queue) → rest ≡ [] → IsRefilled entries rest ready → (q : ℕ) (e : Entry K) → lookup (nat_eq q) entries ≡ Some e → status_of (shown_entry e) ≡ Ready → is_queued q ready ≡ true
+  pub refill_end : (rest : List (ℕ × Kept K)) (ready : Queue) → rest ≡ [] → IsRefilled entries rest ready → (q : ℕ) (e : Kept K) → lookup (nat_eq q) entries ≡ Some e → status_of (shown_entry (opened e)) ≡ Ready → is_queued q ready ≡ true
   refill_end rest ready is r q e at status =
       let p = place_from_lookup (nat_eq q) entries e at in
       let whole : r.front ≡ entries = sym (append-nil r.front) ∙ ap (λ xs. r.front ++ xs) (sym is) ∙ r.whole in

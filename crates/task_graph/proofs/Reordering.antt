@@ -7,14 +7,14 @@ use Rattle.task_states.specs.States.{is_run_for}
 use Rattle.task_states.specs.Maps.{kept}
 use Rattle.task_states.specs.Awaiters.{IsRunnable}
 use Rattle.task_states.proofs.Maps.{same_maps}
-use Rattle.task_graph.specs.declared.callers.Callers.{Callers}
+use Rattle.task_links.specs.declared.callers.Callers.{Callers}
 use Rattle.task_graph.specs.declared.held.Held.{Held}
 use Rattle.task_graph.specs.declared.parts.Parts.{Parts}
-use Rattle.task_graph.specs.Inside.{entries_at, shown_entry, station_at, room_of}
-use Rattle.task_graph.specs.Callers.{caller_at, bounds_at}
-use Rattle.task_graph.specs.Weave.{head_at, link_at, IsWoven}
-use Rattle.task_graph.specs.Order.{IsOrdered}
-use Rattle.task_graph.specs.Queue.{is_queued, IsQueue, queue_capacity}
+use Rattle.task_links.specs.Inside.{entries_at, shown_entry, station_at, room_of}
+use Rattle.task_links.specs.Callers.{caller_at, bounds_at}
+use Rattle.task_links.specs.Weave.{head_at, link_at, IsWoven}
+use Rattle.task_links.specs.Order.{IsOrdered}
+use Rattle.task_links.specs.Queue.{is_queued, IsQueue, queue_capacity}
 use Rattle.task_graph.specs.Graphs.{tasks_of, graph_of, stopped_from, IsWhole, IsHeld}
 use Rattle.task_graph.proofs.Runs.{task_is}
 

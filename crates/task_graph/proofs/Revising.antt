@@ -7,16 +7,16 @@ use Rattle.std.specs.FinMap as map
 use Rattle.task_states.specs.States.{is_run_for, running, status_of, is_running}
 use Rattle.task_states.proofs.Maps.{same_or_not, test_same, test_apart, same_maps, get_inserted}
 use Rattle.task_states.proofs.Options.{same_some, map_behind}
-use Rattle.task_graph.specs.declared.callers.Caller.{Caller}
-use Rattle.task_graph.specs.declared.entries.Entry.{Entry}
-use Rattle.task_graph.specs.declared.entries.Spot.{Spot}
+use Rattle.task_links.specs.declared.callers.Caller.{Caller}
+use Rattle.task_links.specs.declared.entries.Entry.{Entry}
+use Rattle.task_links.specs.declared.entries.Spot.{Spot}
 use Rattle.task_graph.specs.declared.parts.Parts.{Parts}
-use Rattle.task_graph.specs.Weave.{Head, IsWoven, link_of, link_at, head_at, head_of}
-use Rattle.task_graph.specs.Inside.{put_in, shown_entry, shown_at, entries_at, place_in, station_at, station_of}
-use Rattle.task_graph.specs.Callers.{caller_at, bounds_at, bounds_of, with_running_at}
-use Rattle.task_graph.specs.Order.{IsOrdered}
+use Rattle.task_links.specs.Weave.{Head, IsWoven, link_of, link_at, head_at, head_of}
+use Rattle.task_links.specs.Inside.{put_in, shown_entry, shown_at, entries_at, place_in, station_at, station_of}
+use Rattle.task_links.specs.Callers.{caller_at, bounds_at, bounds_of, with_running_at}
+use Rattle.task_links.specs.Order.{IsOrdered}
 use Rattle.task_graph.specs.Graphs.{tasks_of, graph_of, stopped_from, IsWhole, IsRevised, with_revised, run_for}
-use Rattle.task_graph.proofs.Changes.{reheaded-woven}
+use Rattle.task_links.proofs.Changes.{reheaded-woven}
 use Rattle.task_graph.proofs.Counting.{count_changed, passes}
 use Rattle.task_graph.proofs.Runs.{task_is, task_there}
 

@@ -10,12 +10,12 @@ use Rattle.task_states.specs.States.{Unfinished, task_at, status, status_of, is_
 use Rattle.task_states.specs.Awaiters.{IsRunnable}
 use Rattle.task_states.proofs.Options.{not_none, same_some, map_behind}
 use Rattle.task_states.proofs.Runnables.{ready_of}
-use Rattle.task_graph.specs.declared.callers.Caller.{Caller}
-use Rattle.task_graph.specs.declared.entries.Entry.{Entry}
+use Rattle.task_links.specs.declared.callers.Caller.{Caller}
+use Rattle.task_links.specs.declared.entries.Entry.{Entry}
 use Rattle.task_graph.specs.declared.parts.Parts.{Parts}
-use Rattle.task_graph.specs.Inside.{shown_entry, shown_at, entries_at, station_of}
-use Rattle.task_graph.specs.Callers.{caller_at, bounds_of}
-use Rattle.task_graph.specs.Order.{Bounds}
+use Rattle.task_links.specs.Inside.{shown_entry, shown_at, entries_at, station_of}
+use Rattle.task_links.specs.Callers.{caller_at, bounds_of}
+use Rattle.task_links.specs.Order.{Bounds}
 use Rattle.task_graph.specs.Graphs.{graph_of, IsWhole}
 use Rattle.task_graph.proofs.Views.{get-tasks_of, has-stopped, flag}
 

@@ -7,10 +7,10 @@ use Rattle.task_states.specs.States.{task_at, Unfinished}
 use Rattle.task_states.specs.Awaiters.{IsNotAwaited}
 use Rattle.task_states.proofs.Options.{not_none}
 use Rattle.task_graph.specs.declared.parts.Parts.{Parts}
-use Rattle.task_graph.specs.Inside.{entries_at}
-use Rattle.task_graph.specs.Weave.{head_at, head_of}
+use Rattle.task_links.specs.Inside.{entries_at}
+use Rattle.task_links.specs.Weave.{head_at, head_of}
 use Rattle.task_graph.specs.Graphs.{graph_of, IsWhole}
-use Rattle.task_graph.proofs.Walking.{some_is}
+use Rattle.task_links.proofs.Walking.{some_is}
 use Rattle.task_graph.proofs.Awaiting.{link_behind}
 use Rattle.task_graph.proofs.Runs.{task_none}
 use Rattle.task_graph.proofs.Additions.{none_entry}

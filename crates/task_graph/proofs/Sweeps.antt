@@ -12,20 +12,20 @@ use Rattle.task_states.specs.Steps.{abandoned}
 use Rattle.task_states.specs.Maps.{kept}
 use Rattle.task_states.proofs.Maps.{same_or_not, test_same, test_apart, same_maps, get-kept}
 use Rattle.task_states.proofs.Options.{not_none, same_some, none_or_some, map_behind}
-use Rattle.task_graph.specs.declared.callers.Caller.{Caller}
-use Rattle.task_graph.specs.declared.entries.Entry.{Entry}
-use Rattle.task_graph.specs.declared.entries.Link.{Link}
-use Rattle.task_graph.specs.declared.entries.Spot.{Spot}
+use Rattle.task_links.specs.declared.callers.Caller.{Caller}
+use Rattle.task_links.specs.declared.entries.Entry.{Entry}
+use Rattle.task_links.specs.declared.entries.Link.{Link}
+use Rattle.task_links.specs.declared.entries.Spot.{Spot}
 use Rattle.task_graph.specs.declared.parts.Parts.{Parts}
-use Rattle.task_graph.specs.Inside.{Station, entries_at, shown_entry, place_in, station_at, station_of}
-use Rattle.task_graph.specs.Callers.{caller_at, bounds_at, bounds_of}
-use Rattle.task_graph.specs.Weave.{Head, Leads, head_at, head_of, link_at, link_of}
-use Rattle.task_graph.specs.Order.{Bounds, row_at, IsReached, IsTail}
+use Rattle.task_links.specs.Inside.{Station, entries_at, shown_entry, place_in, station_at, station_of}
+use Rattle.task_links.specs.Callers.{caller_at, bounds_at, bounds_of}
+use Rattle.task_links.specs.Weave.{Head, Leads, head_at, head_of, link_at, link_of}
+use Rattle.task_links.specs.Order.{Bounds, row_at, IsReached, IsTail}
 use Rattle.task_graph.specs.Graphs.{tasks_of, graph_of, stopped_from, IsWhole}
 use Rattle.task_graph.specs.Sweeping.{IsBefore, IsSwept}
-use Rattle.task_graph.proofs.Chains.{row_with}
-use Rattle.task_graph.proofs.Weaving.{left-woven, leads_alike}
-use Rattle.task_graph.proofs.Orders.{row_of_station, station_of_row}
+use Rattle.task_links.proofs.Chains.{row_with}
+use Rattle.task_links.proofs.Weaving.{left-woven, leads_alike}
+use Rattle.task_links.proofs.Orders.{row_of_station, station_of_row}
 use Rattle.task_graph.proofs.Views.{has-stopped, flag, has}
 use Rattle.task_graph.proofs.Runs.{task_is, task_there}
 

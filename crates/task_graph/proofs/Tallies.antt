@@ -13,19 +13,19 @@ use Rattle.task_states.specs.Listing.{awaiters}
 use Rattle.task_states.proofs.Options.{not_none, same_some}
 use Rattle.task_states.proofs.Deliveries.{asked_once, delivers_to_one}
 use Rattle.task_states.proofs.Listings.{lists_none, takes_one_out}
-use Rattle.task_graph.specs.declared.entries.Entry.{Entry}
-use Rattle.task_graph.specs.declared.entries.Link.{Link}
-use Rattle.task_graph.specs.declared.entries.Spot.{Spot}
+use Rattle.task_links.specs.declared.entries.Entry.{Entry}
+use Rattle.task_links.specs.declared.entries.Link.{Link}
+use Rattle.task_links.specs.declared.entries.Spot.{Spot}
 use Rattle.task_graph.specs.declared.parts.Parts.{Parts}
-use Rattle.task_graph.specs.Inside.{entries_at, place_at}
-use Rattle.task_graph.specs.Weave.{Above, Leads, row_of, head_of, link_at}
+use Rattle.task_links.specs.Inside.{entries_at, place_at}
+use Rattle.task_links.specs.Weave.{Above, Leads, row_of, head_of, link_at}
 use Rattle.task_graph.specs.Graphs.{graph_of, IsWhole}
 use Rattle.task_graph.specs.Counted.{IsCounted}
 use Rattle.task_graph.proofs.Awaiting.{link_behind, asked_is, asked_same}
-use Rattle.task_graph.proofs.Chains.{row_with, same_key}
+use Rattle.task_links.proofs.Chains.{row_with, same_key}
 use Rattle.task_graph.proofs.Marking.{input_is}
-use Rattle.task_graph.proofs.Weaving.{row_is, link_is}
-use Rattle.task_graph.proofs.Writing.{awaits_behind}
+use Rattle.task_links.proofs.Weaving.{row_is, link_is}
+use Rattle.task_links.proofs.Writing.{awaits_behind}
 
 above_more : (bound : Option ℕ) (a b : ℕ) → Above bound a → a < b → Above bound b
 above_more None a b above less = tt

@@ -2,7 +2,7 @@
 use Rattle.std.proofs.Common.{◌≡◌, ℕ, suc, zero, ◌+◌, ◌<◌, Bool, true, false, cond, ◌||◌, List, [], ◌∷◌, length, Option, Some, None, is_some, nat_eq, refl, ap, ◌∙◌, arith}
 use Rattle.std.specs.Prelude.{map as each, slice_get}
 use Rattle.std.specs.Option.{option_map}
-use Rattle.std.specs.List.{IsDistinct, list_any}
+use Rattle.std.specs.List.{IsDistinct}
 use Rattle.std.specs.Map.{lookup, keys_of}
 use Rattle.std.specs.Ordering.{nat_cmp}
 use Rattle.std.specs.Cmp.{nat_cmp_total, nat_eq_equiv, unsigned_tied}
@@ -12,13 +12,13 @@ use Rattle.std.proofs.lemmas.Bool.Decides.{nat_tests}
 use Rattle.std.proofs.lemmas.Map.{lookup-none}
 use Rattle.std.proofs.lemmas.Map.Keys.{IsDistinct-tail}
 use Rattle.std.proofs.lemmas.Map.Entries.{none_past_head}
-use Rattle.task_states.specs.States.{Unfinished, is_awaiting}
+use Rattle.task_states.specs.States.{Unfinished}
 use Rattle.cht_ids.specs.declared.refs.Ref.{Ref}
 use Rattle.task_states.proofs.Maps.{test_same, test_apart}
-use Rattle.task_graph.specs.declared.callers.Caller.{Caller}
-use Rattle.task_graph.specs.declared.entries.Entry.{Entry}
-use Rattle.task_graph.specs.declared.entries.Place.{Place}
-use Rattle.task_graph.specs.Inside.{shown_entry, shown_place}
+use Rattle.task_links.specs.declared.callers.Caller.{Caller}
+use Rattle.task_links.specs.declared.kept.Kept.{Kept}
+use Rattle.task_links.specs.Kept.{opened}
+use Rattle.task_links.specs.Inside.{shown_entry}
 use Rattle.task_graph.specs.Graphs.{tasks_of, stopped_from}
 
 map_cond : {A B : Type 0} (f : A → B) (b : Bool) (x y : Option A) → cond b (option_map f x) (option_map f y) ≡ option_map f (cond b x y)
@@ -26,33 +26,34 @@ map_cond f true x y = refl
 map_cond f false x y = refl
 
 module _ {K : Type 0} where
-  find-shown : (es : List (ℕ × Entry K)) (q : ℕ) → map.find nat_cmp q (each (λ e. (e.0, shown_entry e.1)) es) ≡ option_map shown_entry (lookup (nat_eq q) es)
+  find-shown : (es : List (ℕ × Kept K)) (q : ℕ) → map.find nat_cmp q (each (λ e. (e.0, shown_entry (opened e.1))) es) ≡ option_map shown_entry (option_map opened (lookup (nat_eq q) es))
   find-shown [] q = refl
   find-shown (e ∷ es) q =
-      ap (λ b. cond b (Some (shown_entry e.1)) (map.find nat_cmp q (each (λ x. (x.0, shown_entry x.1)) es))) (unsigned_tied q e.0)
-      ∙ ap (cond (nat_eq q e.0) (Some (shown_entry e.1))) (find-shown es q)
-      ∙ map_cond shown_entry (nat_eq q e.0) (Some e.1) (lookup (nat_eq q) es)
+      ap (λ b. cond b (Some (shown_entry (opened e.1))) (map.find nat_cmp q (each (λ x. (x.0, shown_entry (opened x.1))) es))) (unsigned_tied q e.0)
+      ∙ ap (cond (nat_eq q e.0) (Some (shown_entry (opened e.1)))) (find-shown es q)
+      ∙ map_cond shown_entry (nat_eq q e.0) (Some (opened e.1)) (option_map opened (lookup (nat_eq q) es))
+      ∙ ap (option_map shown_entry) (map_cond opened (nat_eq q e.0) (Some e.1) (lookup (nat_eq q) es))
 
   -- the task with a number
-  pub get-tasks_of : (es : List (ℕ × Entry K)) (q : ℕ) → map.get (tasks_of es) q ≡ option_map shown_entry (lookup (nat_eq q) es)
+  pub get-tasks_of : (es : List (ℕ × Kept K)) (q : ℕ) → map.get (tasks_of es) q ≡ option_map shown_entry (option_map opened (lookup (nat_eq q) es))
   unfolding tasks_of
-  get-tasks_of es q = map.get-from_entries nat_cmp_total (each (λ e. (e.0, shown_entry e.1)) es) q ∙ find-shown es q
+  get-tasks_of es q = map.get-from_entries nat_cmp_total (each (λ e. (e.0, shown_entry (opened e.1))) es) q ∙ find-shown es q
 
-  len-shown : (es : List (ℕ × Entry K)) → IsDistinct nat_eq (keys_of es) → map.len (map.from_entries {R = nat_cmp} (each (λ e. (e.0, shown_entry e.1)) es)) ≡ length es
+  len-shown : (es : List (ℕ × Kept K)) → IsDistinct nat_eq (keys_of es) → map.len (map.from_entries {R = nat_cmp} (each (λ e. (e.0, shown_entry (opened e.1))) es)) ≡ length es
   len-shown [] distinct = map.len-empty nat_cmp (Unfinished Ref K)
   len-shown (e ∷ es) distinct =
-      let rest : map.FinMap nat_cmp (Unfinished Ref K) = map.from_entries (each (λ x. (x.0, shown_entry x.1)) es) in
+      let rest : map.FinMap nat_cmp (Unfinished Ref K) = map.from_entries (each (λ x. (x.0, shown_entry (opened x.1))) es) in
       let absent : map.get rest e.0 ≡ None =
-      map.get-from_entries nat_cmp_total (each (λ x. (x.0, shown_entry x.1)) es) e.0
+      map.get-from_entries nat_cmp_total (each (λ x. (x.0, shown_entry (opened x.1))) es) e.0
       ∙ find-shown es e.0
-      ∙ ap (option_map shown_entry) (lookup-none (nat_eq e.0) es (none_past_head nat_eq_equiv e.0 e es distinct (grind (arith, nat_tests)))) in
-      let one_more : map.len (map.insert rest e.0 (shown_entry e.1)) ≡ map.len rest + 1 =
-      map.len-insert nat_cmp_total rest e.0 (shown_entry e.1)
+      ∙ ap (λ o. option_map shown_entry (option_map opened o)) (lookup-none (nat_eq e.0) es (none_past_head nat_eq_equiv e.0 e es distinct (grind (arith, nat_tests)))) in
+      let one_more : map.len (map.insert rest e.0 (shown_entry (opened e.1))) ≡ map.len rest + 1 =
+      map.len-insert nat_cmp_total rest e.0 (shown_entry (opened e.1))
       ∙ ap (λ o. cond (is_some o) (map.len rest) (map.len rest + 1)) absent in
       omega (arith, one_more, len-shown es (IsDistinct-tail nat_eq e.0 (keys_of es) distinct))
 
   -- as many as the entries
-  pub len-tasks_of : (es : List (ℕ × Entry K)) → IsDistinct nat_eq (keys_of es) → map.len (tasks_of es) ≡ length es
+  pub len-tasks_of : (es : List (ℕ × Kept K)) → IsDistinct nat_eq (keys_of es) → map.len (tasks_of es) ≡ length es
   unfolding tasks_of
   len-tasks_of es distinct = len-shown es distinct
 
@@ -95,7 +96,3 @@ has-from first (row ∷ rows) (suc i) q at =
 -- which callers are stopped
 pub has-stopped : (rows : List Caller) (q : ℕ) → has (stopped_from 0 rows) q ≡ flag (slice_get rows q)
 has-stopped rows q = has-from 0 rows q q (omega arith)
-
-pub any_shown : (places : List Place) → list_any (λ place. is_awaiting (shown_place place)) places ≡ list_any is_awaiting (each shown_place places)
-any_shown [] = refl
-any_shown (place ∷ places) = ap (λ b. is_awaiting (shown_place place) || b) (any_shown places)

@@ -6,13 +6,13 @@ use Rattle.task_states.specs.declared.states.Slot.{Slot}
 use Rattle.task_states.specs.declared.states.Slot.TheVariants.{Known, Awaits}
 use Rattle.task_states.specs.States.{Input, Known as KnownInput}
 use Rattle.task_states.specs.Steps.{added}
-use Rattle.task_graph.specs.declared.entries.Link.{Link}
-use Rattle.task_graph.specs.declared.entries.Place.{Place}
-use Rattle.task_graph.specs.declared.entries.Place.TheVariants.{Known as KnownPlace}
-use Rattle.task_graph.specs.declared.entries.Spot.{Spot}
+use Rattle.task_links.specs.declared.entries.Link.{Link}
+use Rattle.task_links.specs.declared.entries.Place.{Place}
+use Rattle.task_links.specs.declared.entries.Place.TheVariants.{Known as KnownPlace}
+use Rattle.task_links.specs.declared.entries.Spot.{Spot}
 use Rattle.task_graph.specs.declared.parts.Parts.{Parts}
-use Rattle.task_graph.specs.Inside.{entries_at}
-use Rattle.task_graph.specs.Weave.{link_at}
+use Rattle.task_links.specs.Inside.{entries_at}
+use Rattle.task_links.specs.Weave.{link_at}
 use Rattle.task_graph.specs.Contents.{input_of}
 use Rattle.task_graph.specs.Graphs.{graph_of, IsWhole}
 

@@ -5,10 +5,10 @@ use Rattle.task_states.specs.declared.states.Awaiter.TheVariants.{Input as AtInp
 use Rattle.task_states.specs.States.{Graph}
 use Rattle.task_states.specs.Awaiters.{IsAwaiter}
 use Rattle.task_states.specs.Listing.{awaiters}
-use Rattle.task_graph.specs.declared.entries.Spot.{Spot}
+use Rattle.task_links.specs.declared.entries.Spot.{Spot}
 use Rattle.task_graph.specs.declared.parts.Parts.{Parts}
-use Rattle.task_graph.specs.Inside.{entries_at}
-use Rattle.task_graph.specs.Weave.{Above, Leads, row_of, link_at}
+use Rattle.task_links.specs.Inside.{entries_at}
+use Rattle.task_links.specs.Weave.{Above, Leads, row_of, link_at}
 use Rattle.task_graph.specs.Graphs.{graph_of}
 
 -- So many inputs were passed, up to a bound, and this one comes next. Who is not counted yet awaits the task in another graph, in

@@ -7,18 +7,20 @@ use Rattle.std.specs.FinSet as numbers
 use Rattle.cht_ids.specs.declared.refs.Ref.{Ref}
 use Rattle.task_states.specs.States.{Unfinished, Graph, running, is_run_for, status_of}
 use Rattle.task_states.specs.Awaiters.{IsRunnable}
-use Rattle.task_graph.specs.declared.callers.Caller.{Caller}
-use Rattle.task_graph.specs.declared.entries.Entry.{Entry}
-use Rattle.task_graph.specs.declared.entries.Link.{Link}
-use Rattle.task_graph.specs.declared.entries.Spot.{Spot}
+use Rattle.task_links.specs.declared.callers.Caller.{Caller}
+use Rattle.task_links.specs.declared.entries.Entry.{Entry}
+use Rattle.task_links.specs.declared.entries.Link.{Link}
+use Rattle.task_links.specs.declared.entries.Spot.{Spot}
 use Rattle.task_graph.specs.declared.parts.Parts.{Parts}
 use Rattle.task_graph.specs.declared.held.Held.{Held}
-use Rattle.task_graph.specs.Inside.{shown_entry, place_in, entries_at, station_at, room_of}
-use Rattle.task_graph.specs.Weave.{head_at, link_at, link_of, IsWoven, IsUnused}
-use Rattle.task_graph.specs.Callers.{caller_at, bounds_at}
-use Rattle.task_graph.specs.Order.{IsOrdered}
-use Rattle.task_graph.specs.declared.queue.Queue.{Queue}
-use Rattle.task_graph.specs.Queue.{is_queued, IsQueue, IsQueueLeast, queue_capacity, queue_len}
+use Rattle.task_links.specs.declared.kept.Kept.{Kept}
+use Rattle.task_links.specs.Kept.{opened}
+use Rattle.task_links.specs.Inside.{shown_entry, place_in, entries_at, station_at, room_of}
+use Rattle.task_links.specs.Weave.{head_at, link_at, link_of, IsWoven, IsUnused}
+use Rattle.task_links.specs.Callers.{caller_at, bounds_at}
+use Rattle.task_links.specs.Order.{IsOrdered}
+use Rattle.task_links.specs.declared.queue.Queue.{Queue}
+use Rattle.task_links.specs.Queue.{is_queued, IsQueue, IsQueueLeast, queue_capacity, queue_len}
 use Rattle.task_states.specs.declared.states.TaskStatus.TheVariants.{Ready}
 
 -- the stopped callers of rows, which count from a number
@@ -28,8 +30,8 @@ stopped_from first (row ∷ rows) = cond row.stopped (numbers.insert (stopped_fr
 
 module _ {K : Type 0} where
   -- the tasks of a hash map's entries
-  unfoldable pub tasks_of : List (ℕ × Entry K) → map.FinMap nat_cmp (Unfinished Ref K)
-  tasks_of entries = map.from_entries (each (λ e. (e.0, shown_entry e.1)) entries)
+  unfoldable pub tasks_of : List (ℕ × Kept K) → map.FinMap nat_cmp (Unfinished Ref K)
+  tasks_of entries = map.from_entries (each (λ e. (e.0, shown_entry (opened e.1))) entries)
 
   -- the tasks that the fields stand for
   abbrev pub graph_of : Parts K → Graph Ref K
@@ -99,8 +101,8 @@ module _ {K : Type 0} where
     pub room : HasRoom held
 
   -- the Ready ones of the first entries are among the numbers, as many at most
-  pub record IsRefilled (entries rest : List (ℕ × Entry K)) (ready : Queue) : Type 0 where
-    pub front : List (ℕ × Entry K)
+  pub record IsRefilled (entries rest : List (ℕ × Kept K)) (ready : Queue) : Type 0 where
+    pub front : List (ℕ × Kept K)
     pub whole : front ++ rest ≡ entries
     pub count : queue_len ready ≤ length front
-    pub queued : (i q : ℕ) (entry : Entry K) → slice_get front i ≡ Some (q, entry) → status_of (shown_entry entry) ≡ Ready → is_queued q ready ≡ true
+    pub queued : (i q : ℕ) (kept : Kept K) → slice_get front i ≡ Some (q, kept) → status_of (shown_entry (opened kept)) ≡ Ready → is_queued q ready ≡ true

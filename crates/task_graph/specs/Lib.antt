@@ -1,12 +1,7 @@
 pub mod Adding
-pub mod Callers
 pub mod Contents
 pub mod Counted
 pub mod Graphs
-pub mod Inside
 pub mod Moving
-pub mod Order
-pub mod Queue
 pub mod Reading
 pub mod Sweeping
-pub mod Weave

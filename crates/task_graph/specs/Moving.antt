@@ -2,11 +2,11 @@
 use Rattle.std.specs.Prelude.{◌≡◌, ℕ, ◌⊎◌, slice_get, set, Option, None, Some}
 use Rattle.cht_ids.specs.declared.refs.Ref.{Ref}
 use Rattle.task_states.specs.States.{Input, Awaits, Unfinished, Graph, task_at}
-use Rattle.task_graph.specs.declared.entries.Link.{Link}
-use Rattle.task_graph.specs.declared.entries.Spot.{Spot}
+use Rattle.task_links.specs.declared.entries.Link.{Link}
+use Rattle.task_links.specs.declared.entries.Spot.{Spot}
 use Rattle.task_graph.specs.declared.parts.Parts.{Parts}
-use Rattle.task_graph.specs.Inside.{entries_at}
-use Rattle.task_graph.specs.Weave.{Head, head_at, link_at, row_of, IsFirst}
+use Rattle.task_links.specs.Inside.{entries_at}
+use Rattle.task_links.specs.Weave.{Head, head_at, link_at, row_of, IsFirst}
 use Rattle.task_graph.specs.Graphs.{graph_of}
 
 -- an input as before, or one that awaited the first task and awaits the second

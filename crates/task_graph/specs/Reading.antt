@@ -3,7 +3,7 @@ use Rattle.std.specs.Prelude.{◌≡◌, ℕ, ◌<◌, ◌≤◌, ◌+◌, ◌-�
 use Rattle.std.specs.Option.{is_some}
 use Rattle.cht_ids.specs.declared.refs.Ref.{Ref}
 use Rattle.task_states.specs.States.{Graph, caller_of}
-use Rattle.task_graph.specs.declared.callers.Caller.{Caller}
+use Rattle.task_links.specs.declared.callers.Caller.{Caller}
 
 -- a task of a caller, below which all have numbers that are not above another, or none where all have
 abbrev pub IsCeiling : {K : Type 0} → Graph Ref K → ℕ → ℕ → Option ℕ → Type 0

@@ -1,8 +1,8 @@
 -- The tasks of a caller go, one after another.
 use Rattle.std.specs.Prelude.{◌≡◌, ℕ, ◌<◌, ◌⊎◌, Option, None, Some}
-use Rattle.task_graph.specs.declared.entries.Entry.{Entry}
+use Rattle.task_links.specs.declared.entries.Entry.{Entry}
 use Rattle.task_graph.specs.declared.parts.Parts.{Parts}
-use Rattle.task_graph.specs.Inside.{entries_at}
+use Rattle.task_links.specs.Inside.{entries_at}
 
 -- below a task, or any where none is given
 abbrev pub IsBefore : Option ℕ → ℕ → Type 0

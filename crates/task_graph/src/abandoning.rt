@@ -2,12 +2,12 @@
 ghost use Rattle.std.specs.Prelude.{◌≡◌, ◌<◌, ◌≤◌, ◌+◌};
 ghost use Rattle.std.specs.HashMap.{hash_map_len};
 ghost use Rattle.task_states.specs.Steps.{abandoned};
-ghost use Rattle.task_graph.specs.Inside.{room_of};
+ghost use Rattle.task_links.specs.Inside.{room_of};
 ghost use Rattle.task_graph.specs.Graphs.{graph_of, IsWhole};
 ghost use Rattle.task_graph.specs.Sweeping.{IsSwept};
 
-use crate::callers::Caller;
 use crate::parts::Parts;
+use task_links::Caller;
 
 impl<K: Copy> Parts<K> {
     // Takes all tasks of a caller out, in the order of their numbers. What is kept for the caller is written by `abandon`.

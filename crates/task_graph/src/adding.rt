@@ -3,14 +3,14 @@ ghost use Rattle.std.specs.Prelude.{◌≡◌, ◌<◌, ◌≤◌, ◌+◌, take
 ghost use Rattle.std.specs.HashMap.{hash_map_len};
 ghost use Rattle.task_states.specs.States.{task_at};
 ghost use Rattle.task_states.specs.Steps.{added};
-ghost use Rattle.task_graph.specs.Inside.{shown_entry, room_of};
+ghost use Rattle.task_links.specs.Inside.{shown_entry, room_of};
 ghost use Rattle.task_graph.specs.Contents.{inputs_given, AreOf, AreFree};
 ghost use Rattle.task_graph.specs.Graphs.{graph_of, IsWhole, IsBare};
 ghost use Rattle.task_graph.specs.Adding.{known_place, bare_input};
 
-use crate::entries::{Entry, Place, Spot};
 use crate::parts::Parts;
 use cht_ids::Ref;
+use task_links::{Entry, Place, Spot};
 use task_states::Slot;
 
 // An input without what it awaits.

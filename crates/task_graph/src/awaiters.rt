@@ -5,8 +5,8 @@ ghost use Rattle.task_states.specs.Listing.{awaiters};
 ghost use Rattle.task_graph.specs.Graphs.{graph_of, IsWhole};
 ghost use Rattle.task_graph.specs.Counted.{IsCounted};
 
-use crate::entries::Spot;
 use crate::parts::Parts;
+use task_links::Spot;
 
 impl<K: Copy> Parts<K> {
     // How many inputs await a task, from the first on; `None` where more await it than 32 bits count.

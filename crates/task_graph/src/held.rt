@@ -1,24 +1,23 @@
 // The fields behind `Tasks`, and its steps.
 ghost use Rattle.std.specs.Prelude.{◌≡◌, ◌+◌, ◌<◌, ◌≤◌, ℕ, Some, None, OnOk, IsOk, IsSome, true, length};
 ghost use Rattle.task_graph.specs.Graphs.{graph_of, IsWhole, AreQueued, AreQueuedBut, HasRoom, IsHeld};
-ghost use Rattle.task_graph.specs.Queue.{is_queued, IsQueue, queue_len, queue_capacity};
+ghost use Rattle.task_links.specs.Queue.{is_queued, IsQueue, queue_len, queue_capacity};
 ghost use Rattle.task_states.specs.declared.states.TaskStatus.TheVariants.{Ready, Running};
 ghost use Rattle.std.specs.HashMap.{hash_map_len};
-ghost use Rattle.task_graph.specs.declared.entries.Entry.{Entry as AnyEntry};
-ghost use Rattle.task_graph.specs.Inside.{shown_entry, entries_at};
+ghost use Rattle.task_links.specs.declared.entries.Entry.{Entry as AnyEntry};
+ghost use Rattle.task_links.specs.Kept.{opened};
+ghost use Rattle.task_links.specs.Inside.{shown_entry, entries_at};
 ghost use Rattle.task_states.specs.States.{no_tasks, status_of, status, task_at, AwaitsNothing};
 ghost use Rattle.task_states.specs.Awaiters.{IsFree, IsNotAwaited, IsLeastAwaiter};
 ghost use Rattle.task_states.specs.Steps.{added, with_asked, started, given_back, delivered, forwarded, removed, with_stopped, abandoned};
 ghost use Rattle.task_states.specs.declared.states.Awaiter.{Awaiter as AnyAwaiter};
 ghost use Rattle.task_graph.specs.Contents.{inputs_given, AreOf, AreFree, AreOfOneCaller, IsAskedOnce};
 
-use crate::callers::Callers;
-use crate::entries::{Entries, Entry};
 use crate::parts::Parts;
-use crate::queue::Queue;
 use cht_ids::{Memory, Ref};
 use std::alloc::Global;
 use std::collections::HashMap;
+use task_links::{Callers, Entries, Kept, Queue};
 use task_states::{Slot, TaskStatus};
 
 // The tasks, the numbers of those that can be run with others among them, and how many tasks can be added without memory.
@@ -30,17 +29,17 @@ pub(crate) struct Held<K> {
 }
 
 // One more number, where its task is Ready.
-fn offer<K: Copy>(ready: &mut Queue, number: u128, entry: &Entry<K>)
+fn offer<K: Copy>(ready: &mut Queue, number: u128, kept: &Kept<K>)
     requires queue { IsQueue ready.old }
-    requires short { entry.now.count ≤ 4 }
+    requires short { kept.now.count ≤ 4 }
     requires room { queue_len ready.old < queue_capacity ready.old }
     ensures queue { IsQueue ready.new }
-    ensures here { status_of (shown_entry entry.now) ≡ Ready → is_queued number ready.new ≡ true }
+    ensures here { status_of (shown_entry (opened kept.now)) ≡ Ready → is_queued number ready.new ≡ true }
     ensures rest { (q : ℕ) → is_queued q ready.old ≡ true → is_queued q ready.new ≡ true }
     ensures len { queue_len ready.new ≤ queue_len ready.old + 1 }
     ensures capacity { queue_capacity ready.old ≤ queue_capacity ready.new }
 {
-    match entry.status() {
+    match kept.status() {
         TaskStatus::Unknown => {}
         TaskStatus::Waiting => {}
         TaskStatus::Ready => ready.push(number),
@@ -57,8 +56,8 @@ fn refill<K: Copy>(entries: &Entries<K>, ready: &mut Queue)
     ensures capacity { queue_capacity ready.old ≤ queue_capacity ready.new }
 {
     ready.clear();
-    for (number, entry) in entries.tasks.iter() {
-        offer(ready, *number, entry);
+    for (number, kept) in entries.tasks.iter() {
+        offer(ready, *number, kept);
     }
 }
 

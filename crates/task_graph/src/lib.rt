@@ -4,15 +4,11 @@
 mod abandoning;
 mod adding;
 mod awaiters;
-mod callers;
-mod entries;
 mod held;
 mod outputs;
 mod parts;
-mod queue;
 mod reading;
 mod running;
 mod tasks;
-mod weave;
 
 pub use tasks::Tasks;

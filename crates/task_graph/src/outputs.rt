@@ -1,19 +1,19 @@
 // Who awaits a task, and what becomes of it when the task's output comes or is handed on.
 ghost use Rattle.std.specs.Prelude.{◌≡◌, ◌<◌, ℕ, Some, None, IsSome, ◌⊎◌, set, Option};
-ghost use Rattle.task_graph.specs.Inside.{entries_at, IsSameSize, place_at};
+ghost use Rattle.task_links.specs.Inside.{entries_at, IsSameSize, place_at};
 ghost use Rattle.task_states.specs.States.{Known as KnownInput, Awaits as AwaitsTask, task_at};
 ghost use Rattle.task_states.specs.Steps.{with_task, delivered, inputs_redirected, forwarded};
-ghost use Rattle.task_graph.specs.Weave.{head_at, link_at, IsFirst, IsUntied, IsTied, IsAtHome, IsUnused, IsUnasked, IsFirstIfInput, Head as AnyHead};
+ghost use Rattle.task_links.specs.Weave.{head_at, link_at, IsFirst, IsUntied, IsTied, IsAtHome, IsUnused, IsUnasked, IsFirstIfInput, Head as AnyHead};
 ghost use Rattle.task_graph.specs.Contents.{AreOfOneCaller, IsAskedOnce};
 ghost use Rattle.task_graph.specs.Moving.{IsMovable, IsMoved};
 ghost use Rattle.task_states.specs.declared.states.Awaiter.{Awaiter as AnyAwaiter};
-ghost use Rattle.task_graph.specs.declared.entries.Spot.{Spot as AnySpot};
+ghost use Rattle.task_links.specs.declared.entries.Spot.{Spot as AnySpot};
 ghost use Rattle.task_states.specs.Awaiters.{IsNotAwaited, IsAwaiterFound, IsLeastAwaiter, task_of, IsRunnable};
 ghost use Rattle.task_graph.specs.Graphs.{graph_of, IsWhole};
 
-use crate::entries::{Link, Spot};
 use crate::parts::Parts;
 use cht_ids::Ref;
+use task_links::{Link, Spot};
 use task_states::Awaiter;
 
 impl<K: Copy> Parts<K> {

@@ -2,20 +2,19 @@
 ghost use Rattle.std.specs.Prelude.{◌≡◌, ◌<◌, ◌≤◌, ◌+◌, ℕ, Some, None, IsSome, length, OnOk, Option};
 ghost use Rattle.std.specs.Option.{option_map};
 ghost use Rattle.std.specs.HashMap.{hash_map_len};
-ghost use Rattle.task_graph.specs.Inside.{entries_at, room_of, station_at, IsSameSize, shown_entry};
-ghost use Rattle.task_graph.specs.Weave.{IsBeside, Middle, IsInserted, IsWithout, link_at};
-ghost use Rattle.task_graph.specs.Callers.{caller_at, bounds_at, load_at};
-ghost use Rattle.task_graph.specs.Order.{IsOrdered, IsJustBelow, IsBehind, with_after_at, with_before_at, with_first_at, with_last_at};
-ghost use Rattle.task_graph.specs.declared.entries.Spot.{Spot as AnySpot};
-ghost use Rattle.task_graph.specs.declared.entries.Link.{Link as AnyLink};
+ghost use Rattle.task_links.specs.Inside.{entries_at, room_of, station_at, IsSameSize, shown_entry};
+ghost use Rattle.task_links.specs.Weave.{IsBeside, Middle, IsInserted, IsWithout, link_at};
+ghost use Rattle.task_links.specs.Callers.{caller_at, bounds_at, load_at};
+ghost use Rattle.task_links.specs.Order.{IsOrdered, IsJustBelow, IsBehind, with_after_at, with_before_at, with_first_at, with_last_at};
+ghost use Rattle.task_links.specs.declared.entries.Spot.{Spot as AnySpot};
+ghost use Rattle.task_links.specs.declared.entries.Link.{Link as AnyLink};
 ghost use Rattle.task_states.specs.States.{task_at, AwaitsNothing};
 ghost use Rattle.task_states.specs.Awaiters.{IsNotAwaited};
 ghost use Rattle.task_states.specs.Steps.{removed, added};
 ghost use Rattle.task_graph.specs.Graphs.{graph_of, IsWhole, IsIdle, IsBare};
 
-use crate::callers::{Caller, Callers};
-use crate::entries::{Entries, Entry};
 use cht_ids::Memory;
+use task_links::{Caller, Callers, Entries, Entry};
 
 // All tasks, and what is kept for their callers.
 #[derive(Drop)]

@@ -2,58 +2,50 @@
 ghost use Rattle.std.specs.Prelude.{◌≡◌, ◌<◌, ◌≤◌, ◌↔◌, ℕ, take, length, slice_get, option_map, Some, None, IsSome, IfSome, IsTrue};
 ghost use Rattle.task_states.specs.Awaiters.{IsLeastOf, IsLater, IsWanted};
 ghost use Rattle.task_states.specs.States.{caller_of};
-ghost use Rattle.task_graph.specs.Inside.{inputs_of, shown_place};
+ghost use Rattle.task_links.specs.Inside.{inputs_of, shown_place};
 ghost use Rattle.task_graph.specs.Contents.{input_of};
 ghost use Rattle.task_graph.specs.Graphs.{graph_of, IsWhole};
 ghost use Rattle.task_graph.specs.Reading.{IsCeiling, is_wanted};
 ghost use Rattle.std.specs.List.{list_any};
 
-use crate::callers::Caller;
-use crate::entries::{Entry, Place};
 use crate::parts::Parts;
+use task_links::{Caller, Entry, Place};
 use task_states::Slot;
 
-impl Place {
-    /// The input as callers give it.
-    fn slot(&self) -> Slot
-        ensures { input_of result ≡ shown_place self.now }
-    {
-        match self {
-            Place::Known(r) => Slot::Known(*r),
-            Place::Awaits(link) => Slot::Awaits(link.task, link.number),
-        }
+// An input as callers give it.
+fn slot(place: &Place) -> Slot
+    ensures { input_of result ≡ shown_place place.now }
+{
+    match place {
+        Place::Known(r) => Slot::Known(*r),
+        Place::Awaits(link) => Slot::Awaits(link.task, link.number),
     }
 }
 
-impl<K: Copy> Entry<K> {
-    /// The input at a place, counted from 0, if there is one.
-    pub fn input(&self, place: u32) -> Option<Slot>
-        requires { self.now.count ≤ 4 }
-        ensures input { option_map input_of result ≡ option_map shown_place (slice_get (inputs_of self.now) place) }
-        ensures few { IfSome result (λ _. place < 4) }
-    {
-        if place < self.count {
-            Some(self.places[place as usize].slot())
-        } else {
-            None
-        }
+/// The input of a task at a place, counted from 0, if there is one.
+pub(crate) fn input<K: Copy>(entry: &Entry<K>, place: u32) -> Option<Slot>
+    requires { entry.now.count ≤ 4 }
+    ensures input { option_map input_of result ≡ option_map shown_place (slice_get (inputs_of entry.now) place) }
+    ensures few { IfSome result (λ _. place < 4) }
+{
+    match entry.input(place) {
+        None => None,
+        Some(found) => Some(slot(&found)),
     }
 }
 
-impl Caller {
-    // Whether the caller has a task and is not stopped.
-    fn is_wanted(&self) -> bool
-        ensures { result ≡ is_wanted self.now }
-    {
-        !self.stopped && self.first.is_some()
-    }
+// Whether a caller has a task and is not stopped.
+fn wanted(row: &Caller) -> bool
+    ensures { result ≡ is_wanted row.now }
+{
+    !row.stopped && row.first.is_some()
 }
 
 // Whether a caller that is not stopped has a task.
 fn any_wanted(rows: &[Caller]) -> bool
     ensures { result ≡ list_any is_wanted rows.now }
 {
-    rows.iter().any(|row| row.is_wanted())
+    rows.iter().any(|row| wanted(row))
 }
 
 impl<K: Copy> Parts<K> {
@@ -81,9 +73,9 @@ impl<K: Copy> Parts<K> {
         requires caller { caller < 64 }
         ensures { IsLeastOf (IsLater (graph_of self.now) caller after) result }
     {
-        if let Some(entry) = self.entries.find(after) {
-            if entry.caller == caller {
-                return entry.after;
+        if let Some(kept) = self.entries.find(after) {
+            if kept.caller == caller {
+                return kept.follower();
             }
         }
         let row = self.callers.get(caller);

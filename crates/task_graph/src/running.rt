@@ -2,18 +2,18 @@
 ghost use Rattle.std.specs.Prelude.{◌≡◌, ◌<◌, ◌+◌, ℕ, Some, None, IsSome, IsTrue, ◌↔◌, ◌^◌, length, Option};
 ghost use Rattle.std.specs.Option.{option_map};
 ghost use Rattle.std.specs.HashMap.{hash_map_len};
-ghost use Rattle.task_graph.specs.Inside.{entries_at, put_in, IsSameSize, shown_entry};
-ghost use Rattle.task_graph.specs.Callers.{caller_at, with_running_at};
-ghost use Rattle.task_graph.specs.Weave.{link_at, IsUnused};
+ghost use Rattle.task_links.specs.Inside.{entries_at, put_in, IsSameSize, shown_entry};
+ghost use Rattle.task_links.specs.Callers.{caller_at, with_running_at};
+ghost use Rattle.task_links.specs.Weave.{link_at, IsUnused};
 ghost use Rattle.task_states.specs.declared.states.TaskStatus.TheVariants.{Ready, Running};
 ghost use Rattle.task_states.specs.States.{task_at, status};
 ghost use Rattle.task_states.specs.Steps.{started, given_back, with_asked, without_asked, with_stopped};
-ghost use Rattle.task_graph.specs.declared.entries.Entry.{Entry as AnyEntry};
+ghost use Rattle.task_links.specs.declared.entries.Entry.{Entry as AnyEntry};
 ghost use Rattle.task_graph.specs.Graphs.{graph_of, IsWhole, IsRevised, with_revised};
 ghost use Rattle.task_states.specs.Awaiters.{IsRunnable};
 
-use crate::callers::Caller;
 use crate::parts::Parts;
+use task_links::Caller;
 use task_states::TaskStatus;
 
 impl<K: Copy> Parts<K> {
@@ -24,7 +24,7 @@ impl<K: Copy> Parts<K> {
     {
         match self.entries.find(task) {
             None => TaskStatus::Unknown,
-            Some(entry) => entry.status(),
+            Some(kept) => kept.status(),
         }
     }
 
@@ -35,9 +35,9 @@ impl<K: Copy> Parts<K> {
     {
         match self.entries.find(task) {
             None => false,
-            Some(entry) => {
-                let row = self.callers.get(entry.caller);
-                match entry.status() {
+            Some(kept) => {
+                let row = self.callers.get(kept.caller);
+                match kept.status() {
                     TaskStatus::Unknown => false,
                     TaskStatus::Waiting => false,
                     TaskStatus::Ready => !row.stopped,

@@ -9,6 +9,7 @@ ghost use Rattle.task_states.specs.Steps.{added, with_asked, started, given_back
 ghost use Rattle.task_graph.specs.Contents.{inputs_given, input_of, AreOf, AreFree, AreOfOneCaller, IsAskedOnce};
 
 use crate::held::Held;
+use crate::reading::input;
 use cht_ids::{Memory, Ref, TaskNo};
 use std::alloc::Global;
 use std::marker::Model;
@@ -214,7 +215,7 @@ impl<K: Copy> Tasks<K> {
         ensures few { IfSome result (λ _. place < 4) }
     {
         let entry = self.held.parts.entries.get(task);
-        entry.input(place)
+        input(&entry, place)
     }
 
     /// The least unfinished task of a caller; `None` exactly where it has none. It is found at once.

@@ -1,7 +1,7 @@
 use Rattle.std.proofs.Common.{ap, ◌∙◌, refl}
 use Rattle.std.specs.Prelude.{map as each, slice_get}
-use Rattle.task_graph.specs.Inside.{shown_place}
-use Rattle.task_graph.specs.Weave.{link_of}
+use Rattle.task_links.specs.Inside.{shown_place}
+use Rattle.task_links.specs.Weave.{link_of}
 use Rattle.task_graph.proofs.Additions.{no_link, shown_bare}
 use Rattle.task_graph.proofs.adding.bare.Goals as goal
 

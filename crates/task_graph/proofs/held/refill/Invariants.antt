@@ -1,6 +1,6 @@
 use Rattle.std.proofs.Common.{◌≤◌}
 use Rattle.task_graph.specs.Graphs.{IsRefilled}
-use Rattle.task_graph.specs.Queue.{IsQueue, queue_capacity}
+use Rattle.task_links.specs.Queue.{IsQueue, queue_capacity}
 use Rattle.task_graph.proofs.held.refill.Given as goal
 
 abbrev pub invariant-loop-number : goal.invariant-loop-number

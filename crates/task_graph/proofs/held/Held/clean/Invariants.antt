@@ -1,6 +1,6 @@
 use Rattle.std.proofs.Common.{◌≡◌}
 use Rattle.task_graph.specs.Graphs.{AreQueued, HasRoom}
-use Rattle.task_graph.specs.Queue.{IsQueue, queue_len}
+use Rattle.task_links.specs.Queue.{IsQueue, queue_len}
 use Rattle.task_graph.proofs.held.Held.clean.Given as goal
 
 abbrev pub invariant-loop-least : goal.invariant-loop-least

@@ -1,10 +1,10 @@
 use Rattle.std.proofs.Common.{◌<◌, Some, ap, sym, subst, ◌∙◌, refl}
 use Rattle.task_states.proofs.Options.{same_some}
-use Rattle.task_graph.specs.Inside.{entries_at}
+use Rattle.task_links.specs.Inside.{entries_at}
 use Rattle.task_graph.specs.Graphs.{graph_of}
 use Rattle.task_graph.specs.Reading.{IsCeiling, rest_to}
 use Rattle.task_graph.proofs.Moves.{entry_of_caller}
-use Rattle.task_graph.proofs.Walking.{some_is}
+use Rattle.task_links.proofs.Walking.{some_is}
 use Rattle.task_graph.proofs.Readings.{ceiling_next, nearer_last, found_above, none_above, caller_there}
 use Rattle.task_graph.proofs.parts.Parts.above.Goals as goal
 

@@ -4,7 +4,7 @@ use Rattle.cht_ids.specs.declared.refs.Ref.TheVariants.{Null}
 use Rattle.task_states.specs.declared.states.Slot.TheVariants.{Known}
 use Rattle.task_graph.specs.declared.parts.Parts.{Parts}
 use Rattle.task_states.specs.Steps.{added}
-use Rattle.task_graph.specs.Inside.{room_of, shown_entry}
+use Rattle.task_links.specs.Inside.{room_of, shown_entry}
 use Rattle.task_graph.specs.Adding.{IsAdding, mixed}
 use Rattle.task_graph.specs.Graphs.{graph_of}
 use Rattle.task_graph.proofs.Additions.{adding_none, adding_known, adding_more, spot_there, spot_free, spot_home, spot_unused, spot_unasked, of_at, free_at, earlier_at, mixed_all, get_at, slot_cases, none_entry}

@@ -1,6 +1,6 @@
 use Rattle.std.proofs.Common.{◌≡◌, ◌+◌, ◌≤◌}
 use Rattle.std.specs.HashMap.{hash_map_len}
-use Rattle.task_graph.specs.Inside.{room_of}
+use Rattle.task_links.specs.Inside.{room_of}
 use Rattle.task_graph.specs.Adding.{IsAdding}
 use Rattle.task_graph.proofs.parts.Parts.add.Given as goal
 

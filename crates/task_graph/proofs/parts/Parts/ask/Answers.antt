@@ -1,10 +1,10 @@
 use Rattle.std.proofs.Common.{Some, sym, subst, ◌∙◌}
 use Rattle.task_states.proofs.Options.{same_some}
-use Rattle.task_graph.specs.Inside.{entries_at, shown_entry}
+use Rattle.task_links.specs.Inside.{entries_at, shown_entry}
 use Rattle.task_graph.specs.Graphs.{graph_of, IsRevised}
 use Rattle.task_graph.proofs.Marking.{entry_of, ask_revised, as_changed}
 use Rattle.task_graph.proofs.Runs.{caller_low, task_there}
-use Rattle.task_graph.specs.Weave.{IsUnused, link_at}
+use Rattle.task_links.specs.Weave.{IsUnused, link_at}
 use Rattle.task_graph.proofs.parts.Parts.ask.Goals as goal
 
 pub get-entry-requires : goal.get-entry-requires

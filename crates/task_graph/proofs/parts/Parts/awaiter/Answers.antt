@@ -1,9 +1,9 @@
 use Rattle.std.proofs.Common.{sym, ap, ◌∙◌, arith}
-use Rattle.task_graph.specs.Inside.{entries_at}
+use Rattle.task_links.specs.Inside.{entries_at}
 use Rattle.std.specs.Option.{option_map}
 use Rattle.task_states.proofs.Options.{not_none, same_some}
-use Rattle.task_graph.specs.Weave.{link_at, head_at, head_of}
-use Rattle.task_graph.proofs.Walking.{some_is}
+use Rattle.task_links.specs.Weave.{link_at, head_at, head_of}
+use Rattle.task_links.proofs.Walking.{some_is}
 use Rattle.task_graph.proofs.Marking.{entry_of}
 use Rattle.task_graph.proofs.Awaiting.{nobody, only_asked, asked_first, input_first, first_link}
 use Rattle.task_graph.proofs.parts.Parts.awaiter.Goals as goal

@@ -1,8 +1,8 @@
 use Rattle.std.proofs.Common.{ap, refl, subst, sym}
 use Rattle.std.specs.Option.{option_map}
-use Rattle.task_graph.specs.Inside.{entries_at, station_at, station_of}
-use Rattle.task_graph.specs.Callers.{caller_at, bounds_at, bounds_of}
-use Rattle.task_graph.specs.Order.{IsBehind}
+use Rattle.task_links.specs.Inside.{entries_at, station_at, station_of}
+use Rattle.task_links.specs.Callers.{caller_at, bounds_at, bounds_of}
+use Rattle.task_links.specs.Order.{IsBehind}
 use Rattle.task_graph.proofs.parts.Parts.behind.Goals as goal
 
 pub returns-in-None : goal.returns-in-None

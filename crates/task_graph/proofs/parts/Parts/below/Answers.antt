@@ -1,10 +1,10 @@
 use Rattle.std.proofs.Common.{◌≡◌, ap, refl, subst, Some, arith, ◌∙◌, sym}
 use Rattle.std.specs.Option.{option_map}
 use Rattle.task_states.proofs.Options.{not_none, same_some}
-use Rattle.task_graph.specs.Inside.{entries_at, station_at, station_of, Station}
-use Rattle.task_graph.specs.Callers.{caller_at, bounds_at, bounds_of}
-use Rattle.task_graph.specs.Order.{IsFloor}
-use Rattle.task_graph.proofs.Splicing.{floor_first, floor_next}
+use Rattle.task_links.specs.Inside.{entries_at, station_at, station_of, Station}
+use Rattle.task_links.specs.Callers.{caller_at, bounds_at, bounds_of}
+use Rattle.task_links.specs.Order.{IsFloor}
+use Rattle.task_links.proofs.Splicing.{floor_first, floor_next}
 use Rattle.task_graph.proofs.parts.Parts.below.Goals as goal
 
 pub loop-at-init : goal.loop-at-init

@@ -1,5 +1,5 @@
-use Rattle.task_graph.specs.Inside.{entries_at, station_at}
-use Rattle.task_graph.specs.Order.{IsFloor, height_of}
+use Rattle.task_links.specs.Inside.{entries_at, station_at}
+use Rattle.task_links.specs.Order.{IsFloor, height_of}
 use Rattle.task_graph.proofs.parts.Parts.below.Given as goal
 
 abbrev pub invariant-loop-at : goal.invariant-loop-at

@@ -1,9 +1,9 @@
 use Rattle.std.proofs.Common.{Some, None, ap, sym, ◌∙◌}
 use Rattle.task_states.specs.States.{caller_of, asked_of}
 use Rattle.task_states.specs.Steps.{inputs_redirected, with_asked, without_asked, asked_moved}
-use Rattle.task_graph.specs.Inside.{entries_at}
+use Rattle.task_links.specs.Inside.{entries_at}
 use Rattle.task_graph.specs.Graphs.{graph_of}
-use Rattle.task_graph.proofs.Walking.{some_is}
+use Rattle.task_links.proofs.Walking.{some_is}
 use Rattle.task_graph.proofs.Moves.{entry_of_caller, either_order, there_of_caller, caller_redirected, asked_redirected, asked_there, caller_asked, unused_asked}
 use Rattle.task_graph.proofs.parts.Parts.forward.Goals as goal
 

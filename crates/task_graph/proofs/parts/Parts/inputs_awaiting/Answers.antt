@@ -1,8 +1,8 @@
 use Rattle.std.proofs.Common.{◌<◌, arith, subst, sym}
-use Rattle.task_graph.specs.Inside.{entries_at}
-use Rattle.task_graph.specs.Weave.{link_at, head_at, rest_from}
+use Rattle.task_links.specs.Inside.{entries_at}
+use Rattle.task_links.specs.Weave.{link_at, head_at, rest_from}
 use Rattle.task_graph.specs.Counted.{IsCounted}
-use Rattle.task_graph.proofs.Walking.{some_is, nearer}
+use Rattle.task_links.proofs.Walking.{some_is, nearer}
 use Rattle.task_graph.proofs.Tallies.{next_link, count_step, count_more}
 use Rattle.task_graph.proofs.parts.Parts.inputs_awaiting.Goals as goal
 

@@ -1,5 +1,5 @@
-use Rattle.task_graph.specs.Inside.{entries_at}
-use Rattle.task_graph.specs.Weave.{link_at, rest_from}
+use Rattle.task_links.specs.Inside.{entries_at}
+use Rattle.task_links.specs.Weave.{link_at, rest_from}
 use Rattle.task_graph.specs.Counted.{IsCounted}
 use Rattle.task_graph.proofs.parts.Parts.inputs_awaiting.Given as goal
 

@@ -1,7 +1,7 @@
 use Rattle.std.proofs.Common.{ap, refl, ◌∙◌}
 use Rattle.task_states.specs.States.{Awaits}
-use Rattle.task_graph.specs.Inside.{entries_at}
-use Rattle.task_graph.specs.Weave.{Head}
+use Rattle.task_links.specs.Inside.{entries_at}
+use Rattle.task_links.specs.Weave.{Head}
 use Rattle.task_graph.proofs.Keeping.{written-whole, written-graph, entry_behind_head}
 use Rattle.task_graph.proofs.parts.Parts.join.Goals as goal
 

@@ -1,9 +1,9 @@
 use Rattle.std.proofs.Common.{ap, sym, ◌∙◌, refl}
 use Rattle.std.specs.Option.{option_map}
-use Rattle.task_graph.specs.Inside.{entries_at}
-use Rattle.task_graph.specs.Weave.{head_of}
+use Rattle.task_links.specs.Inside.{entries_at}
+use Rattle.task_links.specs.Weave.{head_of}
 use Rattle.task_graph.specs.Graphs.{graph_of}
-use Rattle.task_graph.proofs.Walking.{some_is}
+use Rattle.task_links.proofs.Walking.{some_is}
 use Rattle.task_graph.proofs.Moves.{none_moved, one_moved, moved_graph, callers_moved, entry_of_caller, movable, awaited_place, own_there, nearer_end, none_awaits}
 use Rattle.task_graph.proofs.parts.Parts.move_all.Goals as goal
 

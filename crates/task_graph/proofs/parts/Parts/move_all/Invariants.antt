@@ -1,5 +1,5 @@
-use Rattle.task_graph.specs.Inside.{entries_at, IsSameSize}
-use Rattle.task_graph.specs.Weave.{rest_first}
+use Rattle.task_links.specs.Inside.{entries_at, IsSameSize}
+use Rattle.task_links.specs.Weave.{rest_first}
 use Rattle.task_graph.specs.Graphs.{graph_of, IsWhole}
 use Rattle.task_graph.specs.Contents.{AreOfOneCaller}
 use Rattle.task_graph.specs.Moving.{AreMoved}

@@ -2,13 +2,21 @@ use Rattle.std.proofs.Common.{ℕ, ap, sym, ◌∙◌, refl}
 use Rattle.std.specs.Option.{option_map}
 use Rattle.task_states.specs.States.{Known, Awaits}
 use Rattle.cht_ids.specs.declared.refs.Ref.TheVariants.{Null}
-use Rattle.task_graph.specs.declared.entries.Link.{Link}
+use Rattle.task_links.specs.declared.entries.Link.{Link}
 use Rattle.task_graph.specs.Graphs.{graph_of}
 use Rattle.task_graph.proofs.Moves.{written_twice}
 use Rattle.task_graph.proofs.parts.Parts.move_first.Goals as goal
 
 pub join-requires-clause-there : goal.join-requires-clause-there
 join-requires-clause-there g c = c.settle-link.ensures.there
+
+pub join-requires-clause-home : goal.join-requires-clause-home
+join-requires-clause-home g c =
+    let home = c.requires.whole.woven.home c.args.spot c.settle-link.result c.settle-link.ensures.link in
+    let other = c.requires.movable.other in
+    let own_new = c.settle-link.ensures.untied.heads_to c.args.spot.task home.0 home.2 in
+    let other_new = c.settle-link.ensures.untied.heads_to c.args.to other.0 other.1 in
+    (own_new.0, other_new.0, own_new.1, other_new.1, other_new.2 ∙ c.requires.movable.there home.0 other.0 home.2 other.1 ∙ sym own_new.2, own_new.3 ∙ home.5)
 
 pub join-requires-clause-unasked : goal.join-requires-clause-unasked
 join-requires-clause-unasked g c = λ task head asked is at same.

@@ -2,12 +2,12 @@ use Rattle.std.proofs.Common.{◌≡◌, ℕ, ap, ◌∙◌, Some, None}
 use Rattle.std.specs.Option.{option_map}
 use Rattle.task_states.proofs.Maps.{test_same}
 use Rattle.task_states.proofs.Options.{not_none}
-use Rattle.task_graph.specs.Inside.{entries_at, station_at, station_of}
-use Rattle.task_graph.specs.Callers.{caller_at, bounds_at}
-use Rattle.task_graph.specs.Order.{IsRoom, with_before_at, with_last_at}
-use Rattle.task_graph.proofs.Besides.{besides, other_put, here_put}
-use Rattle.task_graph.proofs.Orders.{placed-ordered}
-use Rattle.task_graph.proofs.Splicing.{spliced, here_as, room_made, home_made, before_apart, after_there}
+use Rattle.task_links.specs.Inside.{entries_at, station_at, station_of}
+use Rattle.task_links.specs.Callers.{caller_at, bounds_at}
+use Rattle.task_links.specs.Order.{IsRoom, with_before_at, with_last_at}
+use Rattle.task_links.proofs.Besides.{besides, other_put, here_put}
+use Rattle.task_links.proofs.Orders.{placed-ordered}
+use Rattle.task_links.proofs.Splicing.{spliced, here_as, room_made, home_made, before_apart, after_there}
 use Rattle.task_graph.proofs.parts.Parts.place.Goals as goal
 
 room : (g : _) (c : goal.After-lead_back g) → IsRoom (bounds_at (caller_at c.args.self.now.callers)) (station_at (entries_at c.args.self.now.entries)) c.args.entry.caller c.args.task c.below-before.result c.behind-after.result

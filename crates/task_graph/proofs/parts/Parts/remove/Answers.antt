@@ -2,7 +2,7 @@ use Rattle.std.proofs.Common.{◌-◌, None, sym, subst, ap, ◌∙◌, arith}
 use Rattle.std.proofs.lemmas.Grind.{common_steps}
 use Rattle.task_states.specs.Steps.{removed}
 use Rattle.task_states.proofs.Options.{same_some}
-use Rattle.task_graph.specs.Inside.{shown_entry}
+use Rattle.task_links.specs.Inside.{shown_entry}
 use Rattle.task_graph.specs.Graphs.{graph_of, IsRevised}
 use Rattle.task_graph.proofs.Marking.{entry_of, back_revised, back_some}
 use Rattle.task_graph.proofs.Awaiting.{idle_of, idle_links, none_from, status_running, revised_idle, removed_revised}

@@ -1,6 +1,6 @@
 use Rattle.std.proofs.Common.{◌≡◌, ap, subst, ◌∙◌, sym}
 use Rattle.task_states.proofs.Options.{same_some}
-use Rattle.task_graph.specs.Inside.{entries_at, shown_entry}
+use Rattle.task_links.specs.Inside.{entries_at, shown_entry}
 use Rattle.task_graph.specs.Graphs.{graph_of, with_revised}
 use Rattle.task_graph.proofs.Runs.{caller_low}
 use Rattle.task_graph.proofs.Revising.{revised-graph, revised-whole}

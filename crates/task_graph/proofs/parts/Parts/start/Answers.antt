@@ -1,7 +1,7 @@
 use Rattle.std.proofs.Common.{◌+◌, Some, sym, subst, ◌∙◌, arith}
 use Rattle.task_states.specs.declared.states.TaskStatus.TheVariants.{Ready}
 use Rattle.task_states.proofs.Options.{same_some}
-use Rattle.task_graph.specs.Inside.{shown_entry}
+use Rattle.task_links.specs.Inside.{shown_entry}
 use Rattle.task_graph.specs.Graphs.{graph_of, IsRevised}
 use Rattle.task_graph.proofs.Marking.{entry_of_status, start_revised, start_few, as_changed}
 use Rattle.task_graph.proofs.Runs.{caller_low, task_there}

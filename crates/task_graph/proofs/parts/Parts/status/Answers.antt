@@ -1,4 +1,5 @@
 use Rattle.std.proofs.Common.{sym, ◌∙◌}
+use Rattle.task_links.specs.Kept.{opened}
 use Rattle.task_graph.proofs.Runs.{status_there, status_none}
 use Rattle.task_graph.proofs.parts.Parts.status.Goals as goal
 
@@ -6,4 +7,4 @@ pub returns-in-None : goal.returns-in-None
 returns-in-None g c = sym (status_none c.args.self.now c.args.task (sym c.in-None.ensures))
 
 pub returns-in-Some : goal.returns-in-Some
-returns-in-Some g c = c.status.ensures ∙ sym (status_there c.args.self.now c.args.task c.in-Some.entry (sym c.in-Some.ensures))
+returns-in-Some g c = c.status.ensures ∙ sym (status_there c.args.self.now c.args.task (opened c.in-Some.kept) (sym c.in-Some.ensures))

@@ -1,13 +1,13 @@
 use Rattle.std.proofs.Common.{◌≡◌, ℕ, ap, sym, subst, ◌∙◌, Some, None, IsSome, arith}
 use Rattle.std.specs.Option.{option_map}
 use Rattle.task_states.proofs.Maps.{test_same}
-use Rattle.task_graph.specs.Inside.{entries_at, station_at, station_of}
-use Rattle.task_graph.specs.Callers.{caller_at, bounds_at}
-use Rattle.task_graph.specs.Order.{with_after_at, with_before_at, with_last_at}
-use Rattle.task_graph.proofs.Besides.{besides, other_put, here_put, entry_behind}
-use Rattle.task_graph.proofs.Orders.{taken-ordered}
-use Rattle.task_graph.proofs.Walking.{some_is}
-use Rattle.task_graph.proofs.Splicing.{spliced, gone_as, next_there, back_there, before_below, after_above}
+use Rattle.task_links.specs.Inside.{entries_at, station_at, station_of}
+use Rattle.task_links.specs.Callers.{caller_at, bounds_at}
+use Rattle.task_links.specs.Order.{with_after_at, with_before_at, with_last_at}
+use Rattle.task_links.proofs.Besides.{besides, other_put, here_put, entry_behind}
+use Rattle.task_links.proofs.Orders.{taken-ordered}
+use Rattle.task_links.proofs.Walking.{some_is}
+use Rattle.task_links.proofs.Splicing.{spliced, gone_as, next_there, back_there, before_below, after_above}
 use Rattle.task_graph.proofs.parts.Parts.take.Goals as goal
 
 pub lead_on-requires-clause-caller : goal.lead_on-requires-clause-caller

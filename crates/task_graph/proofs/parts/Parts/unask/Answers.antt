@@ -1,6 +1,6 @@
 use Rattle.std.proofs.Common.{None, sym, subst, ◌∙◌, refl}
 use Rattle.task_states.proofs.Options.{same_some, not_none}
-use Rattle.task_graph.specs.Inside.{shown_entry}
+use Rattle.task_links.specs.Inside.{shown_entry}
 use Rattle.task_graph.specs.Graphs.{graph_of, IsRevised}
 use Rattle.task_graph.proofs.Marking.{entry_of, ask_revised, as_changed}
 use Rattle.task_graph.proofs.Runs.{caller_low, task_there}

@@ -1,0 +1,12 @@
+pub mod Sending
+pub mod Parts
+pub mod Points
+pub mod Listing
+pub mod Finishes
+pub mod Heads
+pub mod GoesOn
+pub mod Advance
+pub mod LineTexts
+pub mod Completed
+pub mod Passed
+pub mod Decimals

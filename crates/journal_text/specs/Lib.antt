@@ -1,0 +1,9 @@
+pub mod Text
+pub mod Bounds
+pub mod Sending
+pub mod Openings
+pub mod Fields
+pub mod Heads
+pub mod Told
+pub mod Answers
+pub mod States

@@ -1,7 +1,0 @@
-use Rattle.std.proofs.Common.{◌∙◌}
-use Rattle.task_graph.specs.Inside.{entries_at}
-use Rattle.task_graph.proofs.Writing.{shown_same}
-use Rattle.task_graph.proofs.entries.Entries.set_next.Goals as goal
-
-pub returns-clause-shown : goal.returns-clause-shown
-returns-clause-shown g c = λ q. c.set_place.ensures.shown q ∙ shown_same (entries_at c.args.self.now) c.args.spot c.link-link.result c.args.next c.link-link.ensures q

@@ -1,7 +1,0 @@
-use Rattle.std.proofs.Common.{◌∙◌}
-use Rattle.task_graph.specs.Inside.{inputs_of}
-use Rattle.task_graph.proofs.Views.{any_shown}
-use Rattle.task_graph.proofs.entries.Entry.is_waiting.Goals as goal
-
-pub returns : goal.returns
-returns g c = c.any_awaits.ensures ∙ any_shown (inputs_of c.args.self.now)

@@ -1,0 +1,11 @@
+pub mod Besides
+pub mod Chains
+pub mod Changes
+pub mod Inputs
+pub mod Orders
+pub mod Queues
+pub mod Splicing
+pub mod Tying
+pub mod Walking
+pub mod Weaving
+pub mod Writing

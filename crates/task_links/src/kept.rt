@@ -1,0 +1,319 @@
+// Entries of tasks as they are kept: numbers in halves, so that nothing is aligned to 16 bytes, and few bytes for what may be
+// missing. Fields stand by falling alignment.
+ghost use Rattle.std.specs.Prelude.{◌≡◌, ◌≤◌, map as each};
+ghost use Rattle.task_links.specs.declared.entries.Place.TheVariants.{Awaits};
+ghost use Rattle.std.specs.List.{list_any};
+ghost use Rattle.task_states.specs.States.{is_awaiting, status_of};
+ghost use Rattle.task_links.specs.Inside.{shown_place, shown_entry};
+ghost use Rattle.task_links.specs.Kept.{joined, joined_if, opened_place, first_in, last_in, opened};
+
+use crate::entries::{Entry, Link, Place, Spot};
+use cht_ids::{Id, Ref};
+use task_states::TaskStatus;
+
+/// A number of 128 bits: 2^64 times the high half, and the low one.
+#[derive(Clone, Copy)]
+pub struct Halves {
+    pub high: u64,
+    pub low: u64,
+}
+
+/// An input: null; the owner and the number of a reference; the awaited task and the input's own number, without a next
+/// input; or the place of the next input, the awaited task, the input's own number, and the task of the next input.
+#[derive(Clone, Copy)]
+pub enum KeptPlace {
+    Null,
+    Refers(u32, Halves),
+    Last(Halves, Halves),
+    Linked(u32, Halves, Halves, Halves),
+}
+
+/// The first and the last input of a list: places come before tasks.
+#[derive(Clone, Copy)]
+pub enum KeptEnds {
+    Neither,
+    First(u32, Halves),
+    Last(u32, Halves),
+    Both(u32, u32, Halves, Halves),
+}
+
+/// An entry. A number counts where its flag is set.
+#[derive(Clone, Copy)]
+pub struct Kept<K> {
+    pub places: [KeptPlace; 4],
+    pub ends: KeptEnds,
+    pub asked: Halves,
+    pub before: Halves,
+    pub after: Halves,
+    pub runner: Option<u32>,
+    pub caller: u32,
+    pub count: u32,
+    pub is_asked: bool,
+    pub has_before: bool,
+    pub has_after: bool,
+    pub kind: K,
+}
+
+const HALF: u128 = 0x1_0000_0000_0000_0000;
+
+// A number in halves.
+fn split(number: u128) -> Halves
+    ensures { joined result ≡ number }
+{
+    Halves {
+        high: (number / HALF) as u64,
+        low: (number % HALF) as u64,
+    }
+}
+
+// The number of two halves.
+fn whole(halves: Halves) -> u128
+    ensures { result ≡ joined halves }
+{
+    halves.high as u128 * HALF + halves.low as u128
+}
+
+// A number that may be missing, in halves, and whether it is there.
+pub(crate) fn split_if(number: Option<u128>) -> (Halves, bool)
+    ensures { joined_if result.0 result.1 ≡ number }
+{
+    match number {
+        None => (Halves { high: 0, low: 0 }, false),
+        Some(number) => (split(number), true),
+    }
+}
+
+// The number of two halves, if it is there.
+fn whole_if(halves: Halves, there: bool) -> Option<u128>
+    ensures { result ≡ joined_if halves there }
+{
+    if there { Some(whole(halves)) } else { None }
+}
+
+// An awaiting input as it is kept.
+fn kept_link(link: Link) -> KeptPlace
+    ensures { opened_place result ≡ Awaits link }
+{
+    match link.next {
+        None => KeptPlace::Last(split(link.task), split(link.number)),
+        Some(next) => KeptPlace::Linked(
+            next.place,
+            split(link.task),
+            split(link.number),
+            split(next.task),
+        ),
+    }
+}
+
+// An input as it is kept.
+pub(crate) fn kept_place(place: Place) -> KeptPlace
+    ensures { opened_place result ≡ place }
+{
+    match place {
+        Place::Known(Ref::Null) => KeptPlace::Null,
+        Place::Known(Ref::Id(id)) => KeptPlace::Refers(id.owner, split(id.number)),
+        Place::Awaits(link) => kept_link(link),
+    }
+}
+
+// An input that is kept.
+pub(crate) fn place(kept: KeptPlace) -> Place
+    ensures { result ≡ opened_place kept }
+{
+    match kept {
+        KeptPlace::Null => Place::Known(Ref::Null),
+        KeptPlace::Refers(owner, number) => {
+            let id = Id {
+                owner,
+                number: whole(number),
+            };
+            Place::Known(Ref::Id(id))
+        }
+        KeptPlace::Last(task, number) => Place::Awaits(Link {
+            task: whole(task),
+            number: whole(number),
+            next: None,
+        }),
+        KeptPlace::Linked(place, task, number, next) => {
+            let next = Spot {
+                task: whole(next),
+                place,
+            };
+            Place::Awaits(Link {
+                task: whole(task),
+                number: whole(number),
+                next: Some(next),
+            })
+        }
+    }
+}
+
+// The ends of a list as they are kept.
+pub(crate) fn kept_ends(first: Option<Spot>, last: Option<Spot>) -> KeptEnds
+    ensures first { first_in result ≡ first }
+    ensures last { last_in result ≡ last }
+{
+    match first {
+        None => match last {
+            None => KeptEnds::Neither,
+            Some(last) => KeptEnds::Last(last.place, split(last.task)),
+        },
+        Some(first) => match last {
+            None => KeptEnds::First(first.place, split(first.task)),
+            Some(last) => {
+                KeptEnds::Both(first.place, last.place, split(first.task), split(last.task))
+            }
+        },
+    }
+}
+
+// An input by its task in halves and its place.
+fn spot(task: Halves, place: u32) -> Spot
+    ensures { result ≡ record { task = joined task; place = place } }
+{
+    Spot {
+        task: whole(task),
+        place,
+    }
+}
+
+// The first input of a list.
+fn first(ends: KeptEnds) -> Option<Spot>
+    ensures { result ≡ first_in ends }
+{
+    match ends {
+        KeptEnds::Neither => None,
+        KeptEnds::First(place, task) => Some(spot(task, place)),
+        KeptEnds::Last(_, _) => None,
+        KeptEnds::Both(place, _, task, _) => Some(spot(task, place)),
+    }
+}
+
+// The last input of a list.
+fn last(ends: KeptEnds) -> Option<Spot>
+    ensures { result ≡ last_in ends }
+{
+    match ends {
+        KeptEnds::Neither => None,
+        KeptEnds::First(_, _) => None,
+        KeptEnds::Last(place, task) => Some(spot(task, place)),
+        KeptEnds::Both(_, place, _, task) => Some(spot(task, place)),
+    }
+}
+
+// Inputs as they are kept.
+fn kept_places(places: &[Place; 4]) -> [KeptPlace; 4]
+    ensures { each opened_place result ≡ places.now }
+{
+    [
+        kept_place(places[0]),
+        kept_place(places[1]),
+        kept_place(places[2]),
+        kept_place(places[3]),
+    ]
+}
+
+// Inputs that are kept.
+fn places(kept: &[KeptPlace; 4]) -> [Place; 4]
+    ensures { result ≡ each opened_place kept.now }
+{
+    [
+        place(kept[0]),
+        place(kept[1]),
+        place(kept[2]),
+        place(kept[3]),
+    ]
+}
+
+impl KeptPlace {
+    // Whether the input awaits a task.
+    fn is_awaiting(&self) -> bool
+        ensures { result ≡ is_awaiting (shown_place (opened_place self.now)) }
+    {
+        match self {
+            KeptPlace::Null => false,
+            KeptPlace::Refers(_, _) => false,
+            KeptPlace::Last(_, _) => true,
+            KeptPlace::Linked(_, _, _, _) => true,
+        }
+    }
+}
+
+// Whether one of these inputs awaits a task.
+fn any_awaits(places: &[KeptPlace]) -> bool
+    ensures { result ≡ list_any (λ place. is_awaiting (shown_place (opened_place place))) places.now }
+{
+    places.iter().any(|place| place.is_awaiting())
+}
+
+impl<K: Copy> Kept<K> {
+    /// Whether an input awaits a task.
+    pub fn is_waiting(&self) -> bool
+        requires { self.now.count ≤ 4 }
+        ensures { result ≡ list_any is_awaiting (shown_entry (opened self.now)).inputs }
+    {
+        any_awaits(&self.places[..self.count as usize])
+    }
+
+    /// How far the task is.
+    pub fn status(&self) -> TaskStatus
+        requires { self.now.count ≤ 4 }
+        ensures { result ≡ status_of (shown_entry (opened self.now)) }
+    {
+        if self.is_waiting() {
+            TaskStatus::Waiting
+        } else if self.runner.is_some() {
+            TaskStatus::Running
+        } else {
+            TaskStatus::Ready
+        }
+    }
+
+    /// The task that follows among those of the caller, if there is one.
+    pub fn follower(&self) -> Option<u128>
+        ensures { result ≡ (opened self.now).after }
+    {
+        whole_if(self.after, self.has_after)
+    }
+
+    /// An entry as it is kept.
+    pub fn of(entry: &Entry<K>) -> Kept<K>
+        ensures { opened result ≡ entry.now }
+    {
+        let (asked, is_asked) = split_if(entry.asked);
+        let (before, has_before) = split_if(entry.before);
+        let (after, has_after) = split_if(entry.after);
+        Kept {
+            places: kept_places(&entry.places),
+            ends: kept_ends(entry.first, entry.last),
+            asked,
+            before,
+            after,
+            runner: entry.runner,
+            caller: entry.caller,
+            count: entry.count,
+            is_asked,
+            has_before,
+            has_after,
+            kind: entry.kind,
+        }
+    }
+
+    /// The entry.
+    pub fn open(&self) -> Entry<K>
+        ensures { result ≡ opened self.now }
+    {
+        Entry {
+            caller: self.caller,
+            kind: self.kind,
+            runner: self.runner,
+            asked: whole_if(self.asked, self.is_asked),
+            count: self.count,
+            places: places(&self.places),
+            first: first(self.ends),
+            last: last(self.ends),
+            before: whole_if(self.before, self.has_before),
+            after: whole_if(self.after, self.has_after),
+        }
+    }
+}

@@ -1,0 +1,147 @@
+// The list of the inputs that await a task: how one joins it, and how its first leaves it.
+ghost use Rattle.std.specs.Prelude.{◌≡◌, ℕ, Option, Some, None, IsSome};
+ghost use Rattle.std.specs.Option.{option_map};
+ghost use Rattle.task_states.specs.States.{Known as KnownInput, Awaits as AwaitsTask};
+ghost use Rattle.task_links.specs.declared.entries.Spot.{Spot as AnySpot};
+ghost use Rattle.task_links.specs.declared.entries.Place.TheVariants.{Awaits as AwaitsPlace};
+ghost use Rattle.task_links.specs.Inside.{entries_at, IsSameSize, shown_place, place_at, with_input, shown_at, station_at};
+ghost use Rattle.task_links.specs.Weave.{head_at, link_at, with_next_at, instead, last_behind, IsGap, IsTied, IsUntied, IsWoven, IsUnused, IsBelow, IsUnasked, IsAtHome, IsFirst, count_of};
+
+use crate::entries::{Entries, Link, Place, Spot};
+use cht_ids::Ref;
+
+// An input, or another where nothing is given.
+fn instead(there: Option<Spot>, spot: Spot, other: Option<Spot>) -> Option<Spot>
+    ensures { result ≡ instead there spot other }
+{
+    match there {
+        None => Some(spot),
+        Some(_) => other,
+    }
+}
+
+// The last of a list whose first has gone, by what follows.
+fn last_behind(next: Option<Spot>, last: Option<Spot>) -> Option<Spot>
+    ensures { result ≡ last_behind next last }
+{
+    match next {
+        None => None,
+        Some(_) => last,
+    }
+}
+
+impl<K: Copy> Entries<K> {
+    // Writes the next one of an awaiting input, if one is given.
+    fn set_behind(&mut self, before: Option<Spot>, next: Option<Spot>)
+        requires { (p : AnySpot) → before ≡ Some p → IsSome (link_at (entries_at self.old) p) }
+        ensures links { (p : AnySpot) → link_at (entries_at self.new) p ≡ option_map (with_next_at p before next) (link_at (entries_at self.old) p) }
+        ensures heads { (q : ℕ) → head_at (entries_at self.new) q ≡ head_at (entries_at self.old) q }
+        ensures shown { (q : ℕ) → shown_at (entries_at self.new) q ≡ shown_at (entries_at self.old) q }
+        ensures stations { (q : ℕ) → station_at (entries_at self.new) q ≡ station_at (entries_at self.old) q }
+        ensures counts { (q : ℕ) → option_map count_of (entries_at self.new q) ≡ option_map count_of (entries_at self.old q) }
+        ensures size { IsSameSize self.old self.new }
+    {
+        if let Some(spot) = before {
+            self.set_next(spot, next);
+        }
+    }
+
+    // Between which two a number stands in the list of a task, looked for from the first.
+    fn walk(&self, task: u128, number: u128, first: Option<Spot>) -> (Option<Spot>, Option<Spot>)
+        requires woven { IsWoven (head_at (entries_at self.now)) (link_at (entries_at self.now)) }
+        requires first { IsBelow (head_at (entries_at self.now)) (link_at (entries_at self.now)) task number None first }
+        requires unused { IsUnused (link_at (entries_at self.now)) number }
+        ensures { IsGap (head_at (entries_at self.now)) (link_at (entries_at self.now)) task number result.0 result.1 }
+    {
+        let mut before = None;
+        let mut next = first;
+        while let Some(spot) = next {
+            let link = self.link(spot);
+            if link.number > number {
+                return (before, next);
+            }
+            before = next;
+            next = link.next;
+        }
+        (before, None)
+    }
+
+    // Between which two a number stands in the list of a task. Where it is greater than all others it is found at once.
+    fn gap(&self, task: u128, number: u128) -> (Option<Spot>, Option<Spot>)
+        requires woven { IsWoven (head_at (entries_at self.now)) (link_at (entries_at self.now)) }
+        requires task { IsSome (entries_at self.now task) }
+        requires unused { IsUnused (link_at (entries_at self.now)) number }
+        ensures { IsGap (head_at (entries_at self.now)) (link_at (entries_at self.now)) task number result.0 result.1 }
+    {
+        let entry = self.get(task);
+        if let Some(last) = entry.last {
+            let link = self.link(last);
+            if link.number < number {
+                return (entry.last, None);
+            }
+        }
+        self.walk(task, number, entry.first)
+    }
+
+    // An input that does not await joins the list of a task, between two others.
+    fn tie(&mut self, spot: Spot, link: Link, before: Option<Spot>)
+        requires there { IsSome (place_at (entries_at self.old) spot) }
+        requires free { link_at (entries_at self.old) spot ≡ None }
+        requires task { IsSome (entries_at self.old link.task) }
+        requires gap { IsGap (head_at (entries_at self.old)) (link_at (entries_at self.old)) link.task link.number before link.next }
+        ensures tied { IsTied (head_at (entries_at self.old)) (head_at (entries_at self.new)) (link_at (entries_at self.old)) (link_at (entries_at self.new))
+            spot link.task link.number before link.next }
+        ensures shown { (q : ℕ) → shown_at (entries_at self.new) q ≡ option_map (with_input q spot (shown_place (AwaitsPlace link))) (shown_at (entries_at self.old) q) }
+        ensures stations { (q : ℕ) → station_at (entries_at self.new) q ≡ station_at (entries_at self.old) q }
+        ensures counts { (q : ℕ) → option_map count_of (entries_at self.new q) ≡ option_map count_of (entries_at self.old q) }
+        ensures size { IsSameSize self.old self.new }
+    {
+        self.set_place(spot, Place::Awaits(link));
+        self.set_behind(before, Some(spot));
+        let entry = self.get(link.task);
+        let first = instead(before, spot, entry.first);
+        let last = instead(link.next, spot, entry.last);
+        self.set_ends(link.task, first, last);
+    }
+
+    /// An input that does not await comes to await a task of the same caller, under a number that no awaiter has.
+    pub fn join(&mut self, spot: Spot, task: u128, number: u128)
+        requires woven { IsWoven (head_at (entries_at self.old)) (link_at (entries_at self.old)) }
+        requires there { IsSome (place_at (entries_at self.old) spot) }
+        requires free { link_at (entries_at self.old) spot ≡ None }
+        requires home { IsAtHome (head_at (entries_at self.old)) spot.task task }
+        requires unused { IsUnused (link_at (entries_at self.old)) number }
+        requires unasked { IsUnasked (head_at (entries_at self.old)) number }
+        ensures woven { IsWoven (head_at (entries_at self.new)) (link_at (entries_at self.new)) }
+        ensures tied { (before : Option AnySpot) × (next : Option AnySpot)
+            × IsTied (head_at (entries_at self.old)) (head_at (entries_at self.new)) (link_at (entries_at self.old)) (link_at (entries_at self.new)) spot task number before next }
+        ensures shown { (q : ℕ) → shown_at (entries_at self.new) q ≡ option_map (with_input q spot (AwaitsTask task number)) (shown_at (entries_at self.old) q) }
+        ensures stations { (q : ℕ) → station_at (entries_at self.new) q ≡ station_at (entries_at self.old) q }
+        ensures counts { (q : ℕ) → option_map count_of (entries_at self.new q) ≡ option_map count_of (entries_at self.old q) }
+        ensures size { IsSameSize self.old self.new }
+    {
+        let (before, next) = self.gap(task, number);
+        self.tie(spot, Link { task, number, next }, before);
+    }
+
+    /// The first input that awaits a task gets a reference, and awaits no more. Answers what it awaited.
+    pub fn settle(&mut self, spot: Spot, r: Ref) -> Link
+        requires woven { IsWoven (head_at (entries_at self.old)) (link_at (entries_at self.old)) }
+        requires first { IsFirst (head_at (entries_at self.old)) (link_at (entries_at self.old)) spot }
+        ensures link { link_at (entries_at self.old) spot ≡ Some result }
+        ensures woven { IsWoven (head_at (entries_at self.new)) (link_at (entries_at self.new)) }
+        ensures untied { IsUntied (head_at (entries_at self.old)) (head_at (entries_at self.new)) (link_at (entries_at self.old)) (link_at (entries_at self.new)) spot result }
+        ensures shown { (q : ℕ) → shown_at (entries_at self.new) q ≡ option_map (with_input q spot (KnownInput r)) (shown_at (entries_at self.old) q) }
+        ensures stations { (q : ℕ) → station_at (entries_at self.new) q ≡ station_at (entries_at self.old) q }
+        ensures there { IsSome (place_at (entries_at self.new) spot) }
+        ensures counts { (q : ℕ) → option_map count_of (entries_at self.new q) ≡ option_map count_of (entries_at self.old q) }
+        ensures size { IsSameSize self.old self.new }
+    {
+        let link = self.link(spot);
+        self.set_place(spot, Place::Known(r));
+        let entry = self.get(link.task);
+        let last = last_behind(link.next, entry.last);
+        self.set_ends(link.task, link.next, last);
+        link
+    }
+}
