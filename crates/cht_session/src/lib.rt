@@ -6,6 +6,7 @@ mod corner;
 mod entries;
 mod leaf_cells;
 mod library;
+mod plain;
 
 pub use entries::entries_of;
 pub use library::MatLib;
