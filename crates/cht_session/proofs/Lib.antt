@@ -1,0 +1,5 @@
+pub mod Served
+pub mod ListedEntries
+pub mod Identifiers
+pub mod Bindings
+pub mod Order

@@ -1,0 +1,10 @@
+pub mod Program
+pub mod Works
+pub mod Listed
+pub mod Operations
+pub mod Bindings
+pub mod Held
+pub mod Given
+pub mod Running
+pub mod Numbers
+pub mod BlockTrees
