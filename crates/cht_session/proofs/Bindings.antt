@@ -10,6 +10,9 @@ use Rattle.cht_script.specs.Newest.{newest}
 use Rattle.cht_script.specs.Meaning.{Known, is_named, without_name, matrix_found, matrix_named}
 use Rattle.cht_script.proofs.Newest.{newest-push}
 use Rattle.cht_session.specs.declared.held.Binding.{Binding}
+use Rattle.cht_ids.specs.declared.refs.Ref.TheVariants.{Null}
+use Rattle.cht_session.specs.declared.held.Held.{Held}
+use Rattle.cht_session.specs.Bindings.{found_in, Puts, IsAdded, EndsAs, IsEnded}
 use Rattle.cht_session.specs.Program.{Bound, known_in, is_bound_as, left_without, reference_found, reference_named}
 use Rattle.cht_session.specs.Held.{IsOf, Finds}
 
@@ -140,3 +143,13 @@ pub finds_nothing : (o : Option Binding) (n : Option Bound) → o ≡ None → F
 finds_nothing None None e finds = refl
 finds_nothing None (Some bound) e finds = absurd finds
 finds_nothing (Some x) n e finds = absurd (let clash : Some x ≡ None = e in cc)
+
+-- ---- Changes
+
+pub ended_none : (held later : Held) (name : List ℕ) → found_in held name ≡ None → later.order.items ≡ held.order.items → Puts held name None later
+    → IsEnded held name Null later
+ended_none held later name found order puts = subst (λ o. EndsAs o held name Null later) (sym found) (refl, order, puts)
+
+pub ended_some : (held later : Held) (name : List ℕ) (one : Binding) → found_in held name ≡ Some one
+    → later.order.items ≡ slice_set held.order.items one.number Null → Puts held name None later → IsEnded held name one.at later
+ended_some held later name one found order puts = subst (λ o. EndsAs o held name one.at later) (sym found) (refl, order, puts)

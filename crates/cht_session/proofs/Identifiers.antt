@@ -122,7 +122,7 @@ same_owner owner tree =
     let one : Named MatChunk = record { owner = owner; tree = tree } in
     let found : Option (Named MatChunk) = Some one in
     let none : Option (Named MatChunk) = None in
-    subst (λ b. IsSome (cond b found none)) (sym (test_same owner)) tt
+    subst (λ b. IsSome (cond b found none)) (sym (test_same owner)) refl
 
 -- the caller holds what names a tree
 pub named_is_held : (names : Names) (tree : Tree MatChunk) (id : Id) → IsNameOf names tree (Held id) → IsSome (of_owner id.owner (map.get names id.number))

@@ -1,10 +1,12 @@
 -- What a caller holds for the names that are bound, as one is bound or ended.
-use Rattle.std.proofs.Common.{◌≡◌, ℕ, zero, suc, Bool, true, false, not, cond, ◌⊎◌, inl, inr, List, [], ◌∷◌, ◌++◌, Option, Some, None, refl, sym, ap, ap₂, ◌∙◌, subst}
-use Rattle.std.specs.Prelude.{slice_get, slice_set}
+use Rattle.std.proofs.Common.{◌≡◌, ℕ, zero, suc, Bool, true, false, not, cond, ◌⊎◌, inl, inr, List, [], ◌∷◌, ◌++◌, Option, Some, None, nat_eq, refl, sym, ap, ap₂, ◌∙◌, subst}
+use Rattle.std.specs.Prelude.{slice_get, slice_set, IsSome}
+use Rattle.name_machine.specs.Parts.{Named}
+use Rattle.cht_engine.specs.Seen.{of_owner}
 use Rattle.std.specs.FinMap as map
 use Rattle.std.specs.Str.{bytes_eq}
 use Rattle.std.proofs.lemmas.Bool.{cases_Bool}
-use Rattle.name_states.proofs.Basics.{none_not_some, same_some}
+use Rattle.name_states.proofs.Basics.{none_not_some, same_some, get_removed, removed_here}
 use Rattle.cht_ids.specs.declared.refs.Id.{Id}
 use Rattle.cht_ids.specs.declared.refs.Ref.{Ref}
 use Rattle.cht_ids.specs.declared.refs.Ref.TheVariants.{Null, Id as HeldId}
@@ -139,20 +141,50 @@ module _ (b h : ℕ) where
 
   -- ---- All of them
 
+  all_case : (names : Names) (x : Bound) (env : List Bound) (r : Ref) → IsNameOf names (tree_of_bound x) r → AreAll (without names r) (identifiers (references env))
+      → AreAll names (identifiers (r ∷ references env))
+  all_case names x env Null here all = all
+  all_case names x env (HeldId id) here all = (named_is_held names (tree_of_bound x) id here, all)
+
   pub kept_all : (names : Names) (env : List Bound) → AreKept b h names env → AreAll names (identifiers (references env))
   kept_all names [] kept = kept
-  kept_all names (x ∷ env) kept = case x.at kept
-    where
-      case : (r : Ref) → IsNameOf names (tree_of_bound x) r × (newest (is_bound_as x.known.name) env ≡ None) × AreKept b h (without names r) env
-          → AreAll names (identifiers (r ∷ references env))
-      case Null kept = kept_all names env kept.2
-      case (HeldId id) kept = (named_is_held names (tree_of_bound x) id kept.0, kept_all (map.remove names id.number) env kept.2)
+  kept_all names (x ∷ env) kept = all_case names x env x.at kept.0 (kept_all (without names x.at) env kept.2)
 
 -- ---- The order
 
+-- an identifier in the order is held
 some_held : (names : Names) (order : List Ref) (i : ℕ) (k : Id) → AreAll names (identifiers order) → slice_get order i ≡ Some (HeldId k)
     → map.get names k.number ≡ None → ⊥
 some_held names [] i k all at none = absurd (let clash : None ≡ Some (HeldId k) = at in cc)
 some_held names (Null ∷ order) zero k all at none = absurd (let clash : Some Null ≡ Some (HeldId k) = at in cc)
 some_held names (Null ∷ order) (suc i) k all at none = some_held names order i k all at none
-some_held names (HeldId id ∷ order) i k all at none = ?
+some_held names (HeldId id ∷ order) zero k all at none =
+    let same : id ≡ k = cc in
+    not_owned id.owner (map.get names id.number) (ap (λ (id : Id). map.get names id.number) same ∙ none) all.0
+  where
+    not_owned : (owner : ℕ) (o : Option (Named MatChunk)) → o ≡ None → IsSome (of_owner owner o) → ⊥
+    not_owned owner None e some = absurd (let clash : false ≡ true = some in cc)
+    not_owned owner (Some x) e some = absurd (let clash : Some x ≡ None = e in cc)
+some_held names (HeldId id ∷ order) (suc i) k all at none =
+    some_held (map.remove names id.number) order i k all.1 at (get_removed names id.number k.number ∙ still (nat_eq k.number id.number) (map.get names k.number) none)
+  where
+    still : (t : Bool) (o : Option (Named MatChunk)) → o ≡ None → cond t None o ≡ None
+    still true o e = refl
+    still false o e = e
+
+-- the identifiers of the order, where one place is null from now on
+pub struck_order : (names : Names) (order : List Ref) (i : ℕ) (r : Ref) → AreAll names (identifiers order) → slice_get order i ≡ Some r
+    → identifiers (slice_set order i Null) ≡ strike_ref r (identifiers order)
+struck_order names [] i r all at = absurd (let clash : None ≡ Some r = at in cc)
+struck_order names (Null ∷ order) zero r all at = subst (λ r. identifiers order ≡ strike_ref r (identifiers order)) (same_some Null r at) refl
+struck_order names (HeldId id ∷ order) zero r all at =
+    subst (λ r. identifiers order ≡ strike_ref r (id ∷ identifiers order)) (same_some (HeldId id) r at) (sym (struck_here id id (identifiers order) refl))
+struck_order names (Null ∷ order) (suc i) r all at = struck_order names order i r all at
+struck_order names (HeldId id ∷ order) (suc i) r all at =
+    ap (λ (ids : List Id). id ∷ ids) (struck_order (map.remove names id.number) order i r all.1 at) ∙ behind r at
+  where
+    behind : (r : Ref) → slice_get order i ≡ Some r → id ∷ strike_ref r (identifiers order) ≡ strike_ref r (id ∷ identifiers order)
+    behind Null at = refl
+    behind (HeldId k) at =
+        sym (struck_later id k (identifiers order) (λ same.
+        some_held (map.remove names id.number) order i k all.1 at (removed_here names id.number k.number (sym same))))

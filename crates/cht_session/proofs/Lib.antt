@@ -3,3 +3,4 @@ pub mod ListedEntries
 pub mod Identifiers
 pub mod Bindings
 pub mod Order
+pub mod Kept
