@@ -4,3 +4,4 @@ pub mod Identifiers
 pub mod Bindings
 pub mod Order
 pub mod Kept
+pub mod Asked

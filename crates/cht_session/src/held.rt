@@ -64,13 +64,18 @@ impl<'a> Held<'a> {
         &self.order
     }
 
-    /// Makes room for one more reference.
-    pub(crate) fn reserve(&mut self) -> Result<(), Memory>
+    /// Makes room for one more reference, that of a name which is not bound. A name that is bound is answered with `Memory`: no script that
+    /// is judged binds one twice.
+    pub(crate) fn make_room(&mut self, name: &[u8]) -> Result<(), Memory>
         ensures same { IsSameHeld self.old self.new }
         ensures room { OnOk result (vec_len self.new.order < vec_capacity self.new.order) }
+        ensures fresh { OnOk result (found_in self.new name.now ≡ None) }
     {
         self.order.reserve(1)?;
-        Ok(())
+        match self.named.get(name) {
+            None => Ok(()),
+            Some(_) => Err(Memory),
+        }
     }
 
     /// What is held of a name.

@@ -14,12 +14,11 @@ use crate::library::MatLib;
 use crate::listed::list_of;
 use crate::operation::Operation;
 use crate::stop::Stop;
-use crate::trees::{assigned, peak_at};
+use crate::trees::{assigned, combined};
 use cht_engine::Engine;
 use cht_ids::Ref;
 use cht_script::{Name, Names};
 use mm_text::Market;
-use quad_matrix::{MatKind, What};
 use std::alloc::Global;
 
 /// Binds a name to a matrix that a script lists.
@@ -37,11 +36,7 @@ pub(crate) fn market<'a, E: Engine<MatLib>>(
     ensures acts { (line : ℕ) → Binds (Lists line (name_bytes to.now) market.now.form (matrix_of_market market.now)) result (E.seen engine.old) held.old (E.seen engine.new) held.new }
     ensures going { IsGoing (E.seen engine.old) held.old (E.seen engine.new) held.new }
 {
-    held.reserve()?;
-    // No script that is judged binds a name twice.
-    if held.find(to.as_bytes()).is_some() {
-        return Err(Stop::Memory);
-    }
+    held.make_room(to.as_bytes())?;
     let at = match list_of(alloc, held.leaf(), held.height(), market)? {
         None => Ref::Null,
         Some(entries) => assigned(engine, ctx, entries)?,
@@ -62,11 +57,8 @@ pub(crate) fn copy<'a, E: Engine<MatLib>>(
     ensures acts { (line : ℕ) → Binds (Does line Copy (names_of names.now)) result (E.seen engine.old) held.old (E.seen engine.new) held.new }
     ensures going { IsGoing (E.seen engine.old) held.old (E.seen engine.new) held.new }
 {
-    held.reserve()?;
-    // No script that is judged binds a name twice, or has a name here that is not bound.
-    if held.find(names.first.as_bytes()).is_some() {
-        return Err(Stop::Memory);
-    }
+    held.make_room(names.first.as_bytes())?;
+    // No script that is judged has a name here that is not bound.
     let Some(from) = held.find(names.second.as_bytes()) else {
         return Err(Stop::Memory);
     };
@@ -89,27 +81,17 @@ pub(crate) fn combine<'a, E: Engine<MatLib>>(
     ensures acts { (line : ℕ) → Binds (Does line (verb_of operation) (names_of names.now)) result (E.seen engine.old) held.old (E.seen engine.new) held.new }
     ensures going { IsGoing (E.seen engine.old) held.old (E.seen engine.new) held.new }
 {
-    held.reserve()?;
-    // No script that is judged binds a name twice, or has a name here that is not bound.
-    if held.find(names.first.as_bytes()).is_some() {
-        return Err(Stop::Memory);
-    }
+    held.make_room(names.first.as_bytes())?;
+    // No script that is judged has a name here that is not bound.
     let Some(a) = held.find(names.second.as_bytes()) else {
         return Err(Stop::Memory);
     };
     let Some(b) = held.find(names.third.as_bytes()) else {
         return Err(Stop::Memory);
     };
-    let first = peak_at(engine, ctx, a.at)?;
-    let second = peak_at(engine, ctx, b.at)?;
-    if !operation.fits(a.rows, a.columns, first, second) {
+    let Some(at) = combined(engine, ctx, held.height(), operation, &a, &b)? else {
         return Err(Stop::Refused);
-    }
-    let kind = MatKind {
-        what: operation.what(),
-        height: held.height(),
     };
-    let at = engine.ask(ctx, kind, &[a.at, b.at])?;
     let (rows, columns) = operation.sizes((a.rows, a.columns), (b.rows, b.columns));
     held.bind(names.first.as_bytes(), rows, columns, at)?;
     Ok(())

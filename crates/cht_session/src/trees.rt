@@ -6,9 +6,11 @@ ghost use Rattle.quad_matrix.specs.Spots.{AreSoundEntries};
 ghost use Rattle.cht_session.specs.Numbers.{number_in, root_peak};
 ghost use Rattle.quad_matrix.specs.declared.kind.What.TheVariants.{Trace};
 ghost use Rattle.quad_matrix.specs.Goals.{kind_of, IsDefined};
-ghost use Rattle.cht_session.specs.Given.{Assigns, Traces};
+ghost use Rattle.cht_session.specs.Given.{IsReadyPair, Combines, Assigns, Traces};
 
+use crate::held::Binding;
 use crate::library::MatLib;
+use crate::operation::Operation;
 use cht_engine::Engine;
 use cht_ids::{Memory, Ref};
 use quad_matrix::{Entries, MatChunk, MatKind, What};
@@ -59,6 +61,33 @@ fn number_in(content: &MatChunk) -> i128
         MatChunk::Num(number) => *number,
         _ => 0,
     }
+}
+
+/// A reference to what an operation makes of two matrices; `None` where a number of it might exceed the limit, by their sizes and peaks.
+pub(crate) fn combined<E: Engine<MatLib>>(
+    engine: &mut E,
+    ctx: &mut E::Context,
+    height: u32,
+    operation: Operation,
+    a: &Binding,
+    b: &Binding,
+) -> Result<Option<Ref>, Memory>
+    requires first { MayMention (E.seen engine.old) a.now.at }
+    requires second { MayMention (E.seen engine.old) b.now.at }
+    requires defined { IsReadyPair (E.seen engine.old) height operation a.now b.now }
+    requires idle { (E.seen engine.old).asks ≡ map.empty }
+    ensures { Combines (E.seen engine.old) (E.seen engine.new) height operation a.now b.now result }
+{
+    let first = peak_at(engine, ctx, a.at)?;
+    let second = peak_at(engine, ctx, b.at)?;
+    if !operation.fits(a.rows, a.columns, first, second) {
+        return Ok(None);
+    }
+    let kind = MatKind {
+        what: operation.what(),
+        height,
+    };
+    Ok(Some(engine.ask(ctx, kind, &[a.at, b.at])?))
 }
 
 /// A reference to the tree of a list of entries. The list is registered for that alone: its identifier is deleted whether the tree was made
