@@ -5,3 +5,4 @@ pub mod Bindings
 pub mod Order
 pub mod Kept
 pub mod Asked
+pub mod Assigned
