@@ -6,3 +6,6 @@ pub mod Order
 pub mod Kept
 pub mod Asked
 pub mod Assigned
+pub mod Completed
+pub mod Matrices
+pub mod Shown

@@ -77,12 +77,16 @@ pub record IsTreeOf (b h : ℕ) (m : Matrix) (tree : Tree MatChunk) : Type 0 whe
   pub canonical : IsCanonical b h tree
   pub block : block_of b h tree ≡ completed (side_of b h) m
 
--- a matrix in the general form, no larger than the blocks, that has a tree
+-- a matrix that is no larger than the blocks, and has a tree
+pub record IsSoundMatrix (b h : ℕ) (m : Matrix) : Type 0 where
+  pub whole : IsMatrix m
+  pub rows : height m ≤ side_of b h
+  pub columns : m.columns ≤ side_of b h
+  pub tree : IsTreeOf b h m (tree_of b h m)
+
+-- the matrix of a name is so, and in the general form
 pub record IsSoundBound (b h : ℕ) (one : Bound) : Type 0 where
-  pub whole : IsMatrix one.known.matrix
-  pub rows : height one.known.matrix ≤ side_of b h
-  pub columns : one.known.matrix.columns ≤ side_of b h
-  pub tree : IsTreeOf b h one.known.matrix (tree_of b h one.known.matrix)
+  pub matrix : IsSoundMatrix b h one.known.matrix
   pub general : one.known.form ≡ General
 
 -- what is held, and what the caller sees, is what these names mean and the references that they were given
