@@ -86,7 +86,8 @@ list_mentioned before after kind inputs tree s (Ok r) is named =
 list_mentioned before after kind inputs tree s (Err memory) is named =
     named_mentioned after tree s (subst (λ n. IsNameOf n tree s) (sym is.names) named)
 
-output_null : (before : Seen MatChunk MatKind) (tree : Tree MatChunk) (r : Ref) → IsOutput before tree r → IsNullIf (not (is_there tree)) r
+-- an output is null exactly where its tree is nothing
+pub output_null : (before : Seen MatChunk MatKind) (tree : Tree MatChunk) (r : Ref) → IsOutput before tree r → IsNullIf (not (is_there tree)) r
 output_null before Nothing Null is = tt
 output_null before Nothing (Held id) is = is
 output_null before (Root c x y z w) Null is = is

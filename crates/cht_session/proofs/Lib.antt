@@ -9,3 +9,4 @@ pub mod Assigned
 pub mod Completed
 pub mod Matrices
 pub mod Shown
+pub mod Effects

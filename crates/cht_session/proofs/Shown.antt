@@ -67,20 +67,36 @@ going_undone seen now held later env is same undone = record {
   };
 }
 
+-- the caller's identifiers stay the same
+pub shown_seen : (seen now : Seen MatChunk MatKind) (held : Held) (env : List Bound) → IsShown seen held env → now.names ≡ seen.names → now.asks ≡ map.empty
+    → IsShown now held env
+shown_seen seen now held env is names idle = record {
+  leaf_low = is.leaf_low;
+  leaf_high = is.leaf_high;
+  low = is.low;
+  names = is.names;
+  ordered = is.ordered;
+  order = is.order;
+  sound = is.sound;
+  kept = subst (λ n. AreKept held.leaf held.height n env) (sym names) is.kept;
+  idle = idle;
+}
+
 -- ---- What is found
 
 -- what is known of a name that is found
 pub record IsFoundIn (seen : Seen MatChunk MatKind) (held : Held) (env : List Bound) (name : List ℕ) (one : Binding) : Type 0 where
   pub bound : Bound
   pub newest_is : newest (is_bound_as name) env ≡ Some bound
-  pub of : IsOf one bound
-  pub sound : IsSoundBound held.leaf held.height bound
-  pub matrix : matrix_named (known_in env) name ≡ bound.known.matrix
+  pub at : one.at ≡ bound.at
+  pub sound : IsSoundMatrix held.leaf held.height (matrix_named (known_in env) name)
+  pub rows : one.rows ≡ height (matrix_named (known_in env) name)
+  pub columns : one.columns ≡ (matrix_named (known_in env) name).columns
   pub form : form_named (known_in env) name ≡ General
   pub reference : reference_named env name ≡ one.at
   pub mentioned : MayMention seen one.at
-  pub tree : tree_named seen one.at ≡ tree_of held.leaf held.height bound.known.matrix
-  pub named : IsNameOf seen.names (tree_of held.leaf held.height bound.known.matrix) one.at
+  pub tree : tree_named seen one.at ≡ tree_of held.leaf held.height (matrix_named (known_in env) name)
+  pub shape : shape_at held name ≡ general (height (matrix_named (known_in env) name)) (matrix_named (known_in env) name).columns
 
 pub is_found : (seen : Seen MatChunk MatKind) (held : Held) (env : List Bound) (name : List ℕ) (one : Binding) → IsShown seen held env → found_in held name ≡ Some one
     → IsFoundIn seen held env name one
@@ -93,24 +109,22 @@ is_found seen held env name one is found =
     let sound = subst (λ o. IfSome o (IsSoundBound b h)) some.1 (is.sound name) in
     let named = subst (λ r. IsNameOf seen.names tree r) (sym some.2.at) (kept_found b h seen.names env name bound is.kept some.1) in
     let known = known_newest name env ∙ ap (option_map (λ (one : Bound). one.known)) some.1 in
+    let m : matrix_named (known_in env) name ≡ bound.known.matrix = ap matrix_found known in
     record {
       bound = bound;
       newest_is = some.1;
-      of = some.2;
-      sound = sound;
-      matrix = ap matrix_found known;
+      at = some.2.at;
+      sound = subst (IsSoundMatrix b h) (sym m) sound.matrix;
+      rows = some.2.rows ∙ ap height (sym m);
+      columns = some.2.columns ∙ ap (λ (m : Matrix). m.columns) (sym m);
       form = ap form_found known ∙ sound.general;
       reference = ap reference_found some.1 ∙ sym some.2.at;
       mentioned = named_mentioned seen tree one.at named;
-      tree = named_seen seen tree one.at named;
-      named = named;
+      tree = named_seen seen tree one.at named ∙ ap (tree_of b h) (sym m);
+      shape =
+          ap shape_found found ∙ ap₂ (λ r c. let shape : Shape = general r c in shape) some.2.rows some.2.columns
+          ∙ ap (λ (m : Matrix). general (height m) m.columns) (sym m);
     }
-
--- the shape that is held
-pub shape_is : (held : Held) (name : List ℕ) (one : Binding) (bound : Bound) → found_in held name ≡ Some one → IsOf one bound
-    → shape_at held name ≡ general (height bound.known.matrix) bound.known.matrix.columns
-shape_is held name one bound found is =
-    ap shape_found found ∙ ap₂ (λ r c. let shape : Shape = general r c in shape) is.rows is.columns
 
 -- ---- One more name
 
@@ -207,7 +221,7 @@ shown_ended seen now held later env name one is found gone idle leaf levels orde
       ordered = ordered_ended held later name one is.ordered found puts order;
       order =
           ap identifiers order ∙ struck_order seen.names held.order.items one.number one.at all (is.ordered.stands name one found)
-          ∙ ap₂ strike_ref at.of.at is.order
+          ∙ ap₂ strike_ref at.at is.order
           ∙ sym (struck_env b h seen.names env name at.bound is.kept at.newest_is);
       sound = λ other.
           subst₂ (λ l k. IfSome (newest (is_bound_as other) (left_without name env)) (IsSoundBound l k)) (sym leaf) (sym levels)
@@ -215,7 +229,7 @@ shown_ended seen now held later env name one is found gone idle leaf levels orde
           (sound_none b h (bytes_eq name other) (newest (is_bound_as other) env) (is.sound other)));
       kept =
           subst₂ (λ l k. AreKept l k now.names (left_without name env)) (sym leaf) (sym levels)
-          (subst (λ n. AreKept b h n (left_without name env)) (ap (without seen.names) (sym at.of.at) ∙ sym gone)
+          (subst (λ n. AreKept b h n (left_without name env)) (ap (without seen.names) (sym at.at) ∙ sym gone)
           (kept_less b h seen.names env name at.bound is.kept at.newest_is));
       idle = idle;
     }

@@ -1,5 +1,5 @@
 -- What calls of an engine leave that give its caller one more reference.
-use Rattle.std.specs.Prelude.{◌≡◌, ℕ, ◌+◌, Bool, true, false, List, [], ◌∷◌, ◌++◌, Option, None, Some, Result, Ok, Err, ℤ}
+use Rattle.std.specs.Prelude.{◌≡◌, ℕ, ◌+◌, ◌≤◌, Bool, true, false, List, [], ◌∷◌, ◌++◌, Option, None, Some, Result, Ok, Err, ℤ}
 use Rattle.std.specs.FinMap as map
 use Rattle.cht_ids.specs.declared.memory.Memory.{Memory}
 use Rattle.cht_ids.specs.declared.refs.Ref.{Ref}
@@ -14,6 +14,7 @@ use Rattle.quad_matrix.specs.declared.chunk.MatChunk.TheVariants as chunk
 use Rattle.quad_matrix.specs.declared.chunk.Entries.{Entries}
 use Rattle.quad_matrix.specs.declared.kind.MatKind.{MatKind}
 use Rattle.quad_matrix.specs.declared.kind.What.TheVariants.{Assign, Trace}
+use Rattle.quad_matrix.specs.Spots.{AreSoundEntries}
 use Rattle.quad_matrix.specs.Blocks.{alone, number_of}
 use Rattle.quad_matrix.specs.Goals.{kind_of, goal_of, IsDefined}
 use Rattle.quad_matrix.specs.Works.{work_of}
@@ -93,3 +94,14 @@ pub record IsTraced (before after : Seen MatChunk MatKind) (height : ℕ) (at : 
 abbrev pub Traces : Seen MatChunk MatKind → Seen MatChunk MatKind → ℕ → Ref → Result ℤ Memory → Type 0
 Traces before after height at (Ok number) = IsTraced before after height at number
 Traces before after height at (Err memory) = IsUndone before after
+
+-- what is known of a list of entries that is to be assigned, if there is one
+abbrev pub IsAssignable : Option Entries → Type 0
+IsAssignable None = Unit {0}
+IsAssignable (Some entries) = AreSoundEntries entries.leaf entries.height false entries × (entries.leaf ≤ 64) × (entries.height ≤ 16)
+
+-- the answer for a list of entries, if there is one; null where there is none, and then nothing is asked
+abbrev pub AssignsAny : Seen MatChunk MatKind → Seen MatChunk MatKind → Option Entries → Result Ref Memory → Type 0
+AssignsAny before after None (Ok r) = (r ≡ Null) × (after ≡ before)
+AssignsAny before after None (Err memory) = ⊥
+AssignsAny before after (Some entries) answer = Assigns before after entries answer

@@ -79,6 +79,9 @@ pub record IsEffect (env : List Bound) (deed : Deed) (seen : Seen MatChunk MatKi
   pub program : AreOfDeed seen.caller held.height env deed at events
   pub told : now.events ≡ seen.events ++ events
   pub account : now.account ≡ seen.account + work_by held.leaf held.height (known_in env) deed
+  pub caller : now.caller ≡ seen.caller
+  pub leaf : later.leaf ≡ held.leaf
+  pub height : later.height ≡ held.height
   pub shown : IsShown now later (env_after env deed at)
 
 -- What one statement did: it took effect, or it was refused and changed nothing, or the run stopped in its text or before it.

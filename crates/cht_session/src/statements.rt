@@ -14,9 +14,8 @@ use crate::library::MatLib;
 use crate::listed::list_of;
 use crate::operation::Operation;
 use crate::stop::Stop;
-use crate::trees::{assigned, combined};
+use crate::trees::{assigned_any, combined};
 use cht_engine::Engine;
-use cht_ids::Ref;
 use cht_script::{Name, Names};
 use mm_text::Market;
 use std::alloc::Global;
@@ -37,10 +36,8 @@ pub(crate) fn market<'a, E: Engine<MatLib>>(
     ensures going { IsGoing (E.seen engine.old) held.old (E.seen engine.new) held.new }
 {
     held.make_room(to.as_bytes())?;
-    let at = match list_of(alloc, held.leaf(), held.height(), market)? {
-        None => Ref::Null,
-        Some(entries) => assigned(engine, ctx, entries)?,
-    };
+    let entries = list_of(alloc, held.leaf(), held.height(), market)?;
+    let at = assigned_any(engine, ctx, entries)?;
     held.bind(to.as_bytes(), market.rows, market.columns, at)?;
     Ok(())
 }

@@ -6,7 +6,7 @@ ghost use Rattle.quad_matrix.specs.Spots.{AreSoundEntries};
 ghost use Rattle.cht_session.specs.Numbers.{number_in, root_peak};
 ghost use Rattle.quad_matrix.specs.declared.kind.What.TheVariants.{Trace};
 ghost use Rattle.quad_matrix.specs.Goals.{kind_of, IsDefined};
-ghost use Rattle.cht_session.specs.Given.{IsReadyPair, Combines, Assigns, Traces};
+ghost use Rattle.cht_session.specs.Given.{IsReadyPair, Combines, Assigns, IsAssignable, AssignsAny, Traces};
 
 use crate::held::Binding;
 use crate::library::MatLib;
@@ -90,9 +90,9 @@ pub(crate) fn combined<E: Engine<MatLib>>(
     Ok(Some(engine.ask(ctx, kind, &[a.at, b.at])?))
 }
 
-/// A reference to the tree of a list of entries. The list is registered for that alone: its identifier is deleted whether the tree was made
-/// or not.
-pub(crate) fn assigned<E: Engine<MatLib>>(
+// A reference to the tree of a list of entries. The list is registered for that alone: its identifier is deleted whether the tree was made
+// or not.
+fn assigned<E: Engine<MatLib>>(
     engine: &mut E,
     ctx: &mut E::Context,
     entries: Entries,
@@ -111,6 +111,22 @@ pub(crate) fn assigned<E: Engine<MatLib>>(
     let tree = engine.ask(ctx, kind, &[list]);
     engine.delete(ctx, list);
     tree
+}
+
+/// A reference to the tree of a list of entries; null where there is none.
+pub(crate) fn assigned_any<E: Engine<MatLib>>(
+    engine: &mut E,
+    ctx: &mut E::Context,
+    entries: Option<Entries>,
+) -> Result<Ref, Memory>
+    requires sound { IsAssignable entries }
+    requires idle { (E.seen engine.old).asks ≡ map.empty }
+    ensures { AssignsAny (E.seen engine.old) (E.seen engine.new) entries result }
+{
+    match entries {
+        None => Ok(Ref::Null),
+        Some(entries) => assigned(engine, ctx, entries),
+    }
 }
 
 /// The trace of the block that a reference names, of which the tasks of a trace are asked. Its identifier is deleted whether it could be
