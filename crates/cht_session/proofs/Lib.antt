@@ -10,3 +10,4 @@ pub mod Completed
 pub mod Matrices
 pub mod Shown
 pub mod Effects
+pub mod Doing

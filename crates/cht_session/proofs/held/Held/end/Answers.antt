@@ -1,4 +1,3 @@
-use Rattle.cht_session.proofs.Effects.{delete_ready}
 use Rattle.std.proofs.Common.{rules, ◌≤◌, length, None, refl, sym}
 use Rattle.std.proofs.lemmas.List.{set_past}
 use Rattle.std.proofs.lemmas.Map.Text.{btree_map_updates_str}
