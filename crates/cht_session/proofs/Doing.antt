@@ -29,7 +29,7 @@ use Rattle.cht_session.specs.Listed.{IsListOf, most_listed}
 use Rattle.cht_session.specs.Bindings.{found_in, shape_found, shape_at, IsSameHeld, IsEnded}
 use Rattle.cht_session.specs.Program.{Bound, known_in}
 use Rattle.cht_session.specs.Held.{side_in, IsShown, IsWell}
-use Rattle.cht_session.specs.Given.{IsUndone, Combines, IsReadyPair, AssignsAny}
+use Rattle.cht_session.specs.Given.{IsUndone, Combines, IsReadyPair, AssignsAny, IsTraced}
 use Rattle.cht_session.specs.Running.{IsEffect, IsGoing, IsPair}
 use Rattle.cht_session.proofs.Asked.{nothing_done}
 use Rattle.cht_session.proofs.ListedEntries.{listed_side}
@@ -212,3 +212,18 @@ delete_done names seen now held later r count leaf levels ended same line env sh
 pub not_assigned : (seen now : Seen MatChunk MatKind) (entries : Option Entries) (memory : Memory) → AssignsAny seen now entries (Err memory) → IsUndone seen now
 not_assigned seen now None memory is = absurd is
 not_assigned seen now (Some entries) memory is = is
+
+-- ---- Where what is held stays
+
+pub held_same : (held : Held) → IsSameHeld held held
+held_same held = record { leaf = refl; height = refl; found = λ name. refl; order = refl }
+
+pub stays : (seen now : Seen MatChunk MatKind) (held : Held) → IsWell seen held → IsUndone seen now → IsGoing seen held now held
+stays seen now held well is = undone seen now held held well (held_same held) is
+
+-- nothing happened
+pub stays_still : (seen now : Seen MatChunk MatKind) (held : Held) → IsWell seen held → now ≡ seen → IsGoing seen held now held
+stays_still seen now held well same = stays seen now held well (nothing_done seen now well.1.idle same)
+
+pub traced_undone : (seen now : Seen MatChunk MatKind) (h : ℕ) (at : Ref) (number : ℤ) → seen.asks ≡ map.empty → IsTraced seen now h at number → IsUndone seen now
+traced_undone seen now h at number idle is = record { caller = is.caller; asks = is.asks ∙ idle; names = is.names }

@@ -60,7 +60,7 @@ pub three_names : (names : Names) → names.count ≡ 3
     → names_of names ≡ name_bytes names.first ∷ name_bytes names.second ∷ name_bytes names.third ∷ []
 three_names names e = ap (λ n. take n (name_bytes names.first ∷ name_bytes names.second ∷ name_bytes names.third ∷ [])) e
 
-plus_none : (n : ℕ) → n + 0 ≡ n
+pub plus_none : (n : ℕ) → n + 0 ≡ n
 plus_none n = omega arith
 
 -- ---- Effects

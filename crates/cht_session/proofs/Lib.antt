@@ -11,3 +11,5 @@ pub mod Matrices
 pub mod Shown
 pub mod Effects
 pub mod Doing
+pub mod CompletedCells
+pub mod Writing
