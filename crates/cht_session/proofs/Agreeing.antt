@@ -226,4 +226,3 @@ wider_market grid side le market good = record {
 pub general_form : (form : Form) → is_general form ≡ true → form ≡ forms.General
 general_form forms.General e = refl
 general_form forms.Symmetric e = absurd cc
-

@@ -349,8 +349,10 @@ delete_effect env line name seen now held later r is leaf levels ended same = ca
     hidden : (other : List ℕ) (t : Bool) → bytes_eq name other ≡ t → found_in held name ≡ None → cond t None (found_in held other) ≡ found_in held other
     hidden other true e at = sym (ap (found_in held) (sym (bytes_same name other e)) ∙ at)
     hidden other false e at = refl
+
     told : (q : Ref) → r ≡ q → now.events ≡ seen.events ++ deletes seen.caller (q ∷ [])
     told q e = ap (λ (s : Seen MatChunk MatKind). s.events) same ∙ (deleted_is seen r).told ∙ ap (λ q. seen.events ++ deletes seen.caller (q ∷ [])) e
+
     case : (o : Option Binding) → found_in held name ≡ o → EndsAs o held name r later → IsEffect env (Does line verb.Delete (name ∷ [])) seen held now later
     case None at (null, order, puts) =
         let fresh = finds_nothing (found_in held name) (newest (is_bound_as name) env) at (is.names name) in

@@ -101,15 +101,16 @@ module _ (b h : ℕ) where
             (subst (λ (x : Bound). AreKept b h (without names x.at) env) first.2 kept.2)
         | inr behind ↦
             let found = kept_found (without names y.at) env name x kept.2 behind.1 in
-            subst (AreKept b h (without names x.at)) (sym (kept_first y env name behind.0))
-            (named_after names (tree_of_bound x) (tree_of_bound y) x.at y.at kept.0 found,
-            none_left y env name kept.1,
-            subst (λ n. AreKept b h n (left_without name env)) (without_both names y.at x.at) (kept_less (without names y.at) env name x kept.2 behind.1))
+            subst (AreKept b h (without names x.at)) (sym (kept_first y env name behind.0)) (
+              named_after names (tree_of_bound x) (tree_of_bound y) x.at y.at kept.0 found,
+              none_left y env name kept.1,
+              subst (λ n. AreKept b h n (left_without name env)) (without_both names y.at x.at) (kept_less (without names y.at) env name x kept.2 behind.1),
+            )
       ]
 
   -- the identifiers of the names but one
   struck_behind : (names : Names) (other tree : Tree MatChunk) (r s : Ref) (ids : List Id) → IsNameOf (without names s) tree r
-      → strike_ref r (identifiers (s ∷ [])  ++ ids) ≡ identifiers (s ∷ []) ++ strike_ref r ids
+      → strike_ref r (identifiers (s ∷ []) ++ ids) ≡ identifiers (s ∷ []) ++ strike_ref r ids
   struck_behind names other tree Null s ids is = refl
   struck_behind names other tree (HeldId id) Null ids is = refl
   struck_behind names other tree (HeldId id) (HeldId k) ids is = struck_later k id ids (λ same. named_apart names tree id k is (sym same))

@@ -106,9 +106,12 @@ module _ (b h : ℕ) where
     combined_fits op.Add shapes fits =
         let cx = x.tree.canonical in
         let cy = y.tree.canonical in
-        let le = leb-true (peak_of m + peak_of n) (2 ^ 126) fits in
-        (cx, cy, sum_fits (block_of b h s) (block_of b h t) (cx.sized.tall ∙ sym cy.sized.tall) (cx.sized.wide ∙ sym cy.sized.wide)
-        (rw (ap peak_of x.tree.block ∙ completed_peak m x, ap peak_of y.tree.block ∙ completed_peak n y) le))
+        let le = leb-true (peak_of m + peak_of n) (2 ^ 126) fits in (
+          cx,
+          cy,
+          sum_fits (block_of b h s) (block_of b h t) (cx.sized.tall ∙ sym cy.sized.tall) (cx.sized.wide ∙ sym cy.sized.wide)
+              (rw (ap peak_of x.tree.block ∙ completed_peak m x, ap peak_of y.tree.block ∙ completed_peak n y) le),
+        )
     combined_fits op.Mul shapes fits =
         product_fits_by_peaks b h Neither s t m n x.tree.canonical y.tree.canonical x.tree.block y.tree.block x.whole y.whole
         (same_size m.columns (height n) shapes) x.columns (leb-true (m.columns * peak_of m * peak_of n) (2 ^ 126) fits)

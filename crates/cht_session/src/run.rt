@@ -130,7 +130,11 @@ fn act<'a, E: Engine<MatLib>, K: Sink>(
     ensures later { K.faults out.old ≤ K.faults out.new }
 {
     match statement {
-        Statement::Market { to, market: listed, .. } => market(alloc, engine, ctx, held, to, listed),
+        Statement::Market {
+            to,
+            market: listed,
+            ..
+        } => market(alloc, engine, ctx, held, to, listed),
         Statement::Act { verb, names, .. } => act_on(alloc, engine, ctx, held, *verb, names, out),
     }
 }
