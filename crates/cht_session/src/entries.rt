@@ -4,8 +4,8 @@ ghost use Rattle.mm_text.specs.declared.market.Form.TheVariants.{General};
 ghost use Rattle.cht_session.specs.BlockTrees.{IsBlockTree, AreEntriesOf};
 
 use crate::library::MatLib;
-use cht_ids::{List, Memory, Ref};
 use cht_engine::Engine;
+use cht_ids::{List, Memory, Ref};
 use mm_text::{Cell, Form};
 use std::alloc::Global;
 
