@@ -1,10 +1,10 @@
 -- The shapes that were told of names agree with the matrices that they mean, as a name is bound or deleted.
 use Rattle.std.proofs.Common.{◌≡◌, ℕ, ◌≤◌, Bool, true, false, not, cond, List, [], ◌∷◌, ◌++◌, Option, None, Some, refl, sym, ap, ap₂, ◌∙◌, subst, subst₂, inl, inr, append-nil, arith}
-use Rattle.std.specs.Prelude.{◌||◌, ◌&&◌, ◌==◌, is_none, option_map}
+use Rattle.std.specs.Prelude.{◌||◌, ◌&&◌, is_none}
 use Rattle.std.specs.List.{list_any, list_all}
 use Rattle.std.specs.Str.{bytes_eq}
 use Rattle.std.proofs.lemmas.Bool.{cases_Bool, false≢true, true≢false}
-use Rattle.dense_def.specs.Matrix.{Matrix, height, times, tmul_of, mult_of, plus}
+use Rattle.dense_def.specs.Matrix.{Matrix, times, tmul_of, mult_of, plus}
 use Rattle.dense_def.proofs.Operations.{height-plus, height-times, height-tmul_of, height-mult_of}
 use Rattle.mm_text.specs.declared.market.Form.{Form}
 use Rattle.mm_text.specs.declared.market.Form.TheVariants as forms
@@ -17,7 +17,7 @@ use Rattle.cht_script.specs.declared.script.Statement.TheVariants as statements
 use Rattle.cht_script.specs.declared.script.Verb.{Verb}
 use Rattle.cht_script.specs.declared.script.Verb.TheVariants as verb
 use Rattle.cht_script.specs.Newest.{newest}
-use Rattle.cht_script.specs.Statements.{Act, names_after, is_general, general, shapes_fit, forms_fit, is_square}
+use Rattle.cht_script.specs.Statements.{Act, names_after, is_general, general}
 use Rattle.cht_script.specs.Verdict.{NamedShape, with_shape, has_name, is_known, shape_found, shape_in, is_among}
 use Rattle.cht_script.specs.Meaning.{Known, Deed, Acts as Does, is_named, matrix_found, matrix_named, form_named, named_matrix, without_name, known_by}
 use Rattle.cht_script.specs.Reading.{deed_of, names_of, name_bytes, IsFormed, IsGoodMarket, matrix_of_market}

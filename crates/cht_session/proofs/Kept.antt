@@ -6,7 +6,7 @@ use Rattle.cht_engine.specs.Seen.{of_owner}
 use Rattle.std.specs.FinMap as map
 use Rattle.std.specs.Str.{bytes_eq}
 use Rattle.std.proofs.lemmas.Bool.{cases_Bool}
-use Rattle.name_states.proofs.Basics.{none_not_some, same_some, get_removed, removed_here}
+use Rattle.name_states.proofs.Basics.{same_some, get_removed, removed_here}
 use Rattle.cht_ids.specs.declared.refs.Id.{Id}
 use Rattle.cht_ids.specs.declared.refs.Ref.{Ref}
 use Rattle.cht_ids.specs.declared.refs.Ref.TheVariants.{Null, Id as HeldId}
@@ -20,7 +20,7 @@ use Rattle.cht_session.specs.Held.{Names, IsNameOf, without, AreKept, AreAll}
 use Rattle.cht_session.specs.Given.{IsGiven}
 use Rattle.cht_session.proofs.Identifiers.{named_given, given_without, given_here, named_before, named_apart, named_after, without_both, named_is_held}
 use Rattle.cht_session.proofs.Bindings.{bytes_same, bytes_back, newest_behind, newest_first, none_first, left_all, newest_left}
-use Rattle.cht_session.proofs.Order.{strike, strike_ref, struck_here, struck_later}
+use Rattle.cht_session.proofs.Order.{strike_ref, struck_here, struck_later}
 
 module _ (b h : ℕ) where
   -- the tree of a name

@@ -1,16 +1,14 @@
 -- What one statement did, and the deletes at the end of a run.
-use Rattle.std.proofs.Common.{◌≡◌, ℕ, ◌+◌, List, [], ◌∷◌, ◌++◌, drop, Option, Some, None, refl, sym, ap, ap₂, ◌∙◌, subst, append_assoc, append-nil}
-use Rattle.std.specs.Prelude.{map as each, Result, Ok, Err}
+use Rattle.std.proofs.Common.{◌≡◌, ℕ, List, [], ◌∷◌, ◌++◌, Option, refl, sym, ap, ◌∙◌, subst, append_assoc, append-nil}
+use Rattle.std.specs.Prelude.{Result, Ok, Err}
 use Rattle.std.specs.FinMap as map
 use Rattle.std.specs.Ordering.{nat_cmp}
 use Rattle.name_machine.specs.Parts.{Named}
 use Rattle.cht_io.specs.Bytes.{Adds}
 use Rattle.cht_io.proofs.Adds.{Adds_nil}
-use Rattle.cht_ids.specs.declared.refs.Id.{Id}
 use Rattle.cht_ids.specs.declared.refs.Ref.{Ref}
 use Rattle.cht_ids.specs.declared.refs.Ref.TheVariants.{Null, Id as HeldId}
 use Rattle.cht_history.specs.declared.event.Event.{Event}
-use Rattle.cht_history.specs.declared.event.Event.TheVariants.{Delete as DeleteEvent}
 use Rattle.cht_engine.specs.Seen.{Seen, MayMention}
 use Rattle.cht_engine.specs.Calls.{deleted}
 use Rattle.quad_matrix.specs.declared.chunk.MatChunk.{MatChunk}

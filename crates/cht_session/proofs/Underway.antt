@@ -1,6 +1,6 @@
 -- The statements of a script, one after another.
-use Rattle.std.proofs.Common.{◌≡◌, ℕ, ◌+◌, ◌<◌, ◌≤◌, Bool, true, false, not, cond, List, [], ◌∷◌, ◌++◌, length, drop, Option, None, Some, refl, sym, ap, ap₂, ◌∙◌, subst, subst₂, arith, append_assoc, append-nil}
-use Rattle.std.specs.Prelude.{map as each, slice_index_or, Result, Ok, Err, ◌&&◌, ◌==◌, option_map}
+use Rattle.std.proofs.Common.{◌≡◌, ℕ, ◌+◌, ◌<◌, ◌≤◌, Bool, true, false, cond, List, [], ◌∷◌, ◌++◌, length, drop, Option, None, Some, refl, sym, ap, ap₂, ◌∙◌, subst, subst₂, arith, append_assoc, append-nil}
+use Rattle.std.specs.Prelude.{map as each, slice_index_or, Ok, Err, ◌&&◌, ◌==◌, option_map}
 use Rattle.std.specs.FinMap as map
 use Rattle.std.proofs.lemmas.List.{drop_more}
 use Rattle.cht_io.specs.Bytes.{Adds, AddsFront}
@@ -14,7 +14,6 @@ use Rattle.cht_engine.specs.Seen.{Seen}
 use Rattle.chunk_codec.specs.Spots.{side_of}
 use Rattle.quad_matrix.specs.declared.chunk.MatChunk.{MatChunk}
 use Rattle.quad_matrix.specs.declared.kind.MatKind.{MatKind}
-use Rattle.mm_text.specs.declared.market.Form.TheVariants as forms
 use Rattle.cht_script.specs.declared.checked.Shape.{Shape}
 use Rattle.cht_script.specs.declared.checked.Step.{Step}
 use Rattle.cht_script.specs.declared.script.Fault.{Fault}
@@ -26,9 +25,9 @@ use Rattle.cht_script.specs.declared.script.Verb.TheVariants as verb
 use Rattle.cht_script.specs.Newest.{newest}
 use Rattle.cht_script.specs.Statements.{Act, names_after, general, shapes_fit, forms_fit, is_square}
 use Rattle.cht_script.specs.Verdict.{NamedShape, shape_in}
-use Rattle.cht_script.specs.Meaning.{Known, Deed, Lists, Acts as Does, matrix_found, matrix_named, is_refused, left_by, bound_by, known_by, text_by, Told, after_text, told_by, line_of, without_name}
-use Rattle.cht_script.specs.Reading.{deed_of, names_of, name_bytes, IsFormed, IsGoodMarket}
-use Rattle.cht_script.specs.Checking.{said_by, known_behind, deleted_behind, IsSound, IsStep, AreSteps, deed_in}
+use Rattle.cht_script.specs.Meaning.{Known, Deed, Lists, Acts as Does, matrix_found, matrix_named, is_refused, left_by, bound_by, known_by, text_by, Told, after_text, told_by, line_of}
+use Rattle.cht_script.specs.Reading.{deed_of, names_of, name_bytes, IsFormed}
+use Rattle.cht_script.specs.Checking.{said_by, known_behind, deleted_behind, IsSound, AreSteps, deed_in}
 use Rattle.cht_script.specs.NotRun.{is_run_verb, is_run, not_run_in}
 use Rattle.cht_session.specs.declared.ended.Ended.{Ended}
 use Rattle.cht_session.specs.declared.ended.Ended.TheVariants as ends
@@ -41,14 +40,14 @@ use Rattle.cht_session.specs.declared.operation.Operation.TheVariants.{Add, Mul,
 use Rattle.cht_session.specs.Operations.{verb_of}
 use Rattle.cht_session.specs.Listed.{most_listed}
 use Rattle.cht_session.specs.Bindings.{found_in, shape_found, shape_at}
-use Rattle.cht_session.specs.Program.{Bound, known_in, is_bound_as, references, identifiers, with_reference, left_without, left_after, env_after, deletes, AreOfDeed, IsProgram, done_of}
+use Rattle.cht_session.specs.Program.{Bound, known_in, is_bound_as, references, identifiers, with_reference, left_after, env_after, deletes, AreOfDeed, IsProgram, done_of}
 use Rattle.cht_session.specs.Works.{work_by, works_by}
 use Rattle.cht_session.specs.Held.{side_in, Finds, IsShown, IsWell, IsLeft}
-use Rattle.cht_session.specs.Running.{HasShape, Agree, IsPair, IsReadyAct, IsReady, IsEffect, Acts, ActsOn, IsGoing, too_great, Stops, Ran, IsRunTo, HasRunTo}
+use Rattle.cht_session.specs.Running.{HasShape, Agree, IsReadyAct, IsReady, ActsOn, too_great, Stops, Ran, IsRunTo, HasRunTo}
 use Rattle.cht_session.proofs.Bindings.{known_newest, known_append, known_left, finds_nothing}
 use Rattle.cht_session.proofs.Shown.{is_found, shown_left}
 use Rattle.cht_session.proofs.Agreeing.{both, agree_next, agree_nothing, one_input, two_inputs, wider_market, general_form}
-use Rattle.cht_session.proofs.Effects.{one_name, two_names, three_names}
+use Rattle.cht_session.proofs.Effects.{one_name, three_names}
 use Rattle.name_states.proofs.Basics.{none_not_some}
 
 -- ---- Shapes

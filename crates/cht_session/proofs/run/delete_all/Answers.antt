@@ -1,4 +1,4 @@
-use Rattle.std.proofs.Common.{[], subst}
+use Rattle.std.proofs.Common.{subst}
 use Rattle.std.proofs.lemmas.List.{drop_more, drop_all}
 use Rattle.cht_ids.specs.declared.refs.Ref.TheVariants.{Null}
 use Rattle.cht_session.proofs.Turning.{IsEmptying, emptying_begins, emptying_ready, emptying_next, emptying_ends}

@@ -1,9 +1,7 @@
-use Rattle.std.proofs.Common.{◌+◌, ◌≤◌, List, [], drop, sym, ap, subst, arith}
+use Rattle.std.proofs.Common.{◌+◌, List, drop, sym, subst, arith}
 use Rattle.std.proofs.lemmas.List.{drop_all}
-use Rattle.chunk_codec.specs.Spots.{side_of}
 use Rattle.cht_script.specs.declared.checked.Step.{Step}
-use Rattle.cht_session.specs.Listed.{most_listed}
-use Rattle.cht_session.proofs.Underway.{IsUnderway, next_step, underway_begins, underway_ready, underway_well, underway_next, underway_ends, underway_ran, underway_stops}
+use Rattle.cht_session.proofs.Underway.{IsUnderway, next_step, underway_begins, underway_ready, underway_next, underway_ends, underway_ran, underway_stops}
 use Rattle.cht_session.proofs.run.run_statements.Goals as goal
 
 pub loop-step-init : goal.loop-step-init
