@@ -12,8 +12,8 @@ use Rattle.task_states.proofs.Maps.{same_maps}
 use Rattle.name_states.proofs.Basics.{same_or_not, none_not_some, inserted_here, inserted_other, removed_here, removed_other}
 use Rattle.name_machine.specs.Parts.{Named}
 use Rattle.name_machine.specs.Paths.{root_content}
-use Rattle.cht_engine.specs.Seen.{Seen, of_owner, tree_of_named, MayMention, tree_named}
-use Rattle.cht_engine.specs.Calls.{trees_named, IsRegistered, deleted, IsOutput, with_output, IsAsked}
+use Rattle.cht_engine.specs.Seen.{Seen, of_owner, tree_of_named, MayMention, tree_named, IsNew, with_name}
+use Rattle.cht_engine.specs.Calls.{trees_named, IsRegistered, IsCopied, deleted, IsOutput, with_output, IsAsked}
 use Rattle.quad_matrix.specs.declared.chunk.Entries.{Entries}
 use Rattle.quad_matrix.specs.declared.chunk.MatChunk.{MatChunk}
 use Rattle.quad_matrix.specs.declared.chunk.MatChunk.TheVariants as chunk
@@ -90,6 +90,18 @@ nothing_left before after Null holds is = ap (λ seen. seen.names) is ∙ holds
 nothing_left before after (Held id) holds is =
     ap (λ seen. seen.names) is ∙ ap (λ m. map.remove m id.number) holds ∙ gone map.empty id.number _ (map.get-empty nat_cmp id.number)
 
+-- a new name beside it
+beside : (before after : Seen MatChunk MatKind) (first : Ref) (id : Id) (tree : Tree MatChunk) → IsNew before id → after.names ≡ (with_name before id tree).names
+    → HoldsOne before first → HoldsTwo after first (Held id)
+beside before after first id tree new names holds = record {
+  mention = mentioned after id tree (ap (λ m. map.get m id.number) names ∙ inserted_here before.names id.number id.number _ _ refl refl);
+  one = held_still (deleted after (Held id)) before first (ap (λ m. map.remove m id.number) names ∙ gone before.names id.number _ new) holds;
+}
+
+-- the same where null came
+beside_null : (before after : Seen MatChunk MatKind) (first : Ref) → after.names ≡ before.names → HoldsOne before first → HoldsTwo after first Null
+beside_null before after first names holds = record { mention = tt; one = held_still after before first names holds }
+
 -- ---- Outputs
 
 module _ (before : Seen MatChunk MatKind) where
@@ -98,19 +110,12 @@ module _ (before : Seen MatChunk MatKind) where
   null_output (Root content a b c d) Null is null = absurd is
   null_output (Root content a b c d) (Held id) is null = absurd (cc)
 
-  -- an output is held
-  output_held : (after : Seen MatChunk MatKind) (output : Tree MatChunk) (r : Ref) → IsOutput before output r → after.names ≡ (with_output before r output).names → MayMention after r
-  output_held after output Null is names = tt
-  output_held after Nothing (Held id) is names = absurd is
-  output_held after (Root content a b c d) (Held id) is names =
-      mentioned after id (Root content a b c d) (ap (λ m. map.get m id.number) names ∙ inserted_here before.names id.number id.number _ _ refl refl)
-
-  -- once it is deleted, the names are as before
-  output_gone : (after : Seen MatChunk MatKind) (output : Tree MatChunk) (r : Ref) → IsOutput before output r → after.names ≡ (with_output before r output).names
-      → (deleted after r).names ≡ before.names
-  output_gone after output Null is names = names
-  output_gone after Nothing (Held id) is names = absurd is
-  output_gone after (Root content a b c d) (Held id) is names = ap (λ m. map.remove m id.number) names ∙ gone before.names id.number _ is
+  -- an output is held beside what was held
+  output_beside : (after : Seen MatChunk MatKind) (output : Tree MatChunk) (r first : Ref) → IsOutput before output r → after.names ≡ (with_output before r output).names
+      → HoldsOne before first → HoldsTwo after first r
+  output_beside after output Null first is names holds = beside_null before after first names holds
+  output_beside after Nothing (Held id) first is names holds = absurd is
+  output_beside after (Root content a b c d) (Held id) first is names holds = beside before after first id (Root content a b c d) is names holds
 
   -- beside it what was held may be mentioned
   beside_output : (after : Seen MatChunk MatKind) (output : Tree MatChunk) (r : Ref) (id : Id) → HoldsOne before (Held id) → IsOutput before output r
@@ -152,6 +157,28 @@ module _ (before after : Seen MatChunk MatKind) where
         list = subst (IsList 2 1 false) (sym (named_one after (Held id) tree names (λ null. absurd (cc)))) (sound, refl, refl, refl, refl);
       }
 
+  -- a content without children was registered
+  pub number_registered : (content : MatChunk) (id : Id) → HoldsNothing before → IsRegistered before after content [] (Ok id) → HoldsOne after (Held id)
+  number_registered content id none is =
+      let tree : Tree MatChunk = rooted content [] in
+      held_one after (Held id) tree (ap (λ seen. seen.names) is.1 ∙ ap (λ m. map.insert m id.number (record { owner = id.owner; tree = tree })) none) (λ null. absurd (cc))
+
+  -- a copy is held beside what was copied
+  pub copied_beside : (r to : Ref) → HoldsOne before r → IsCopied before after r (Ok to) → HoldsTwo after r to
+  copied_beside Null Null holds is = beside_null before after Null (ap (λ seen. seen.names) is) holds
+  copied_beside Null (Held to) holds is = absurd is
+  copied_beside (Held id) Null holds is = absurd is
+  copied_beside (Held id) (Held to) holds is =
+      beside before after (Held id) to (tree_named before (Held id)) is.0 (ap (λ seen. seen.names) is.1) holds
+
+  -- and names the same
+  pub copied_same : (r to : Ref) → IsCopied before after r (Ok to) → tree_named after to ≡ tree_named before r
+  copied_same Null Null is = refl
+  copied_same Null (Held to) is = absurd is
+  copied_same (Held id) Null is = absurd is
+  copied_same (Held id) (Held to) is =
+      ap (λ seen. tree_of_named (map.get seen.names to.number)) is.1 ∙ ap tree_of_named (inserted_here before.names to.number to.number _ _ refl refl)
+
   -- the block of a list may be asked for
   pub assign_defined : (id : Id) → HoldsList before id → IsDefined (kind_of Assign 1) (trees_named before (Held id ∷ []))
   assign_defined id holds = record { low = omega arith; leaf = 2; leaf_high = omega arith; fits = holds.list }
@@ -162,10 +189,7 @@ module _ (before after : Seen MatChunk MatKind) where
 
     -- after an ask its output is held beside what was held
     pub asked_beside : (first : Ref) → HoldsOne before first → HoldsTwo after first r
-    asked_beside first holds = record {
-      mention = output_held before after (goal_of kind (trees_named before inputs)) r is.0 names_asked;
-      one = held_still (deleted after r) before first (output_gone before after (goal_of kind (trees_named before inputs)) r is.0 names_asked) holds;
-    }
+    asked_beside first holds = output_beside before after (goal_of kind (trees_named before inputs)) r first is.0 names_asked holds
 
   -- after an ask the list is held still
   pub list_still : (id : Id) (r : Ref) → HoldsList before id → IsAsked matrices before after (kind_of Assign 1) (Held id ∷ []) (Ok r) → MayMention after (Held id)

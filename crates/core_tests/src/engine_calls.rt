@@ -165,6 +165,29 @@ fn number_traced(alloc: Global, engine: &mut PlainEngine<MatLib>) -> Result<Opti
     Ok(number)
 }
 
+// ---- Copies
+
+// The caller registers a number.
+fn register_number(engine: &mut PlainEngine<MatLib>) -> Result<Ref, Refused>
+    requires { HoldsNothing (seen_of matrices engine.old) }
+    ensures { IfOk result (HoldsOne (seen_of matrices engine.new)) }
+{
+    let id = engine.register(MatChunk::Num(5), &[])?;
+    Ok(Ref::Id(id))
+}
+
+// The caller copies what it holds.
+fn copy(engine: &mut PlainEngine<MatLib>, r: Ref) -> Result<Ref, Refused>
+    requires { HoldsOne (seen_of matrices engine.old) r }
+    ensures two { IfOk result (HoldsTwo (seen_of matrices engine.new) r) }
+    ensures same { IfOk result (λ copy. tree_named (seen_of matrices engine.new) copy ≡ tree_named (seen_of matrices engine.old) r) }
+{
+    let copy = engine.copy(r)?;
+    Ok(copy)
+}
+
+// ---- What was done
+
 // How many events of a record are finishes of tasks.
 fn finishes(record: &Record<MatLib>) -> u64 {
     let journal = record.journal();
@@ -188,5 +211,23 @@ fn a_trace_is_asked_for_and_looked_at(rt: HostRuntime) -> Result<(), Fail> {
     let record = engine.close();
     assert_eq!(rt; record.journal().len(), 18);
     assert_eq!(rt; finishes(&record), 5);
+    Ok(())
+}
+
+#[test]
+fn a_copy_names_the_same(rt: HostRuntime) -> Result<(), Fail> {
+    let alloc = rt.alloc();
+    let mut engine = open(alloc)?;
+    let null = copy(&mut engine, Ref::Null)?;
+    assert_eq!(rt; null, Ref::Null);
+    delete_both(&mut engine, Ref::Null, null);
+    let one = register_number(&mut engine)?;
+    let other = copy(&mut engine, one)?;
+    assert!(rt; other != one);
+    assert_eq!(rt; number_named(&engine, other), Some(5));
+    delete_both(&mut engine, one, other);
+    let record = engine.close();
+    assert_eq!(rt; record.journal().len(), 4);
+    assert_eq!(rt; finishes(&record), 0);
     Ok(())
 }
