@@ -9,6 +9,7 @@ ghost use Rattle.quad_matrix.specs.Matrices.{matrices};
 ghost use Rattle.core_tests.specs.Holdings.{HoldsNothing, HoldsOne, HoldsTwo, HoldsList, HoldsMatrix, HasSmallPeak};
 
 use cht_core::Record;
+use cht_engine::Engine;
 use cht_history::Event;
 use cht_ids::{Id, List, Memory, Ref};
 use cht_plain::PlainEngine;
@@ -165,6 +166,98 @@ fn number_traced(alloc: Global, engine: &mut PlainEngine<MatLib>) -> Result<Opti
     Ok(number)
 }
 
+// ---- The same on any engine
+
+// The caller registers the list, asks for its block, and deletes the list.
+fn matrix_on<E: Engine<MatLib>>(
+    alloc: Global,
+    engine: &mut E,
+    ctx: &mut E::Context,
+) -> Result<Ref, Refused>
+    requires { HoldsNothing (E.seen engine.old) }
+    ensures { IfOk result (HoldsMatrix (E.seen engine.new)) }
+{
+    let entries = entries(alloc)?;
+    let id = engine.register(ctx, MatChunk::Entries(entries), &[])?;
+    let kind = MatKind {
+        what: What::Assign,
+        height: 1,
+    };
+    let a = engine.ask(ctx, kind, &[Ref::Id(id)])?;
+    engine.delete(ctx, Ref::Id(id));
+    Ok(a)
+}
+
+// Whether no number of a matrix that the caller holds is greater, by what its root says.
+fn has_small_peak_on<E: Engine<MatLib>>(engine: &mut E, ctx: &mut E::Context, a: Ref) -> bool
+    requires { HoldsMatrix (E.seen engine.old) a }
+    ensures unchanged { E.seen engine.new ≡ E.seen engine.old }
+    ensures small { IsTrue result → HasSmallPeak (root_content (tree_named (E.seen engine.old) a)) }
+{
+    match a {
+        Ref::Null => true,
+        Ref::Id(id) => match engine.look(ctx, id, &[]) {
+            Ok(None) => true,
+            Ok(Some(content)) => content.get().peak() <= MOST,
+            Err(_) => false,
+        },
+    }
+}
+
+// The caller asks for the trace of its matrix.
+fn trace_on<E: Engine<MatLib>>(engine: &mut E, ctx: &mut E::Context, a: Ref) -> Result<Ref, Refused>
+    requires { HoldsMatrix (E.seen engine.old) a }
+    ensures { IfOk result (HoldsTwo (E.seen engine.new) a) }
+{
+    if !has_small_peak_on(engine, ctx, a) {
+        return Err(Refused::Condition);
+    }
+    let kind = MatKind {
+        what: What::Trace,
+        height: 1,
+    };
+    let t = engine.ask(ctx, kind, &[a])?;
+    Ok(t)
+}
+
+// The number that a reference names, if it names one.
+fn number_on<E: Engine<MatLib>>(engine: &mut E, ctx: &mut E::Context, r: Ref) -> Option<i128>
+    requires { MayMention (E.seen engine.old) r }
+    ensures { E.seen engine.new ≡ E.seen engine.old }
+{
+    let id = match r {
+        Ref::Null => return None,
+        Ref::Id(id) => id,
+    };
+    match engine.look(ctx, id, &[]) {
+        Ok(Some(content)) => match content.get() {
+            MatChunk::Num(n) => Some(*n),
+            MatChunk::Leaf(_) => None,
+            MatChunk::Node { .. } => None,
+            MatChunk::Entries(_) => None,
+        },
+        Ok(None) => None,
+        Err(_) => None,
+    }
+}
+
+// The number that the trace of the list is. The caller holds nothing afterwards.
+fn run<E: Engine<MatLib>>(
+    alloc: Global,
+    engine: &mut E,
+    ctx: &mut E::Context,
+) -> Result<Option<i128>, Refused>
+    requires { HoldsNothing (E.seen engine.old) }
+    ensures { OnOk result (HoldsNothing (E.seen engine.new)) }
+{
+    let a = matrix_on(alloc, engine, ctx)?;
+    let t = trace_on(engine, ctx, a)?;
+    let number = number_on(engine, ctx, t);
+    engine.delete(ctx, t);
+    engine.delete(ctx, a);
+    Ok(number)
+}
+
 // ---- Copies
 
 // The caller registers a number.
@@ -207,6 +300,18 @@ fn a_trace_is_asked_for_and_looked_at(rt: HostRuntime) -> Result<(), Fail> {
     let alloc = rt.alloc();
     let mut engine = open(alloc)?;
     let number = number_traced(alloc, &mut engine)?;
+    assert_eq!(rt; number, Some(3));
+    let record = engine.close();
+    assert_eq!(rt; record.journal().len(), 18);
+    assert_eq!(rt; finishes(&record), 5);
+    Ok(())
+}
+
+#[test]
+fn the_trace_is_the_same_through_the_trait(rt: HostRuntime) -> Result<(), Fail> {
+    let alloc = rt.alloc();
+    let mut engine = open(alloc)?;
+    let number = run(alloc, &mut engine, &mut ())?;
     assert_eq!(rt; number, Some(3));
     let record = engine.close();
     assert_eq!(rt; record.journal().len(), 18);
