@@ -2,4 +2,6 @@
 #![tactic(auto)]
 
 #[cfg(test)]
+mod engine_calls;
+#[cfg(test)]
 mod journal_calls;
