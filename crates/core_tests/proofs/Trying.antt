@@ -1,5 +1,5 @@
 -- What the calls of the tests leave known.
-use Rattle.std.proofs.Common.{◌≡◌, ℕ, ◌+◌, false, List, map as each, None, Some, Result, Ok, Err, IfOk, refl, sym, ap, ◌∙◌}
+use Rattle.std.proofs.Common.{◌≡◌, ℕ, ◌+◌, false, List, map as each, None, Result, Ok, Err, IfOk, refl, ap, ◌∙◌}
 use Rattle.std.specs.Ordering.{nat_cmp}
 use Rattle.std.specs.FinMap as map
 use Rattle.std.specs.FinSet as numbers
@@ -49,12 +49,12 @@ module _ (before after : Contents MatChunk MatKind) where
   awaits_asked task kind inputs tried happens =
       let now : Machine MatChunk MatKind = state_of before in
       let new : Ask (Tree MatChunk) (Tree MatChunk) =
-          record {
-            caller = 0;
-            number = now.drawn + 2 + present inputs;
-            goal = matrices.goal kind (each (tree_named now) inputs);
-            delivered = None;
-          } in
+      record {
+        caller = 0;
+        number = now.drawn + 2 + present inputs;
+        goal = matrices.goal kind (each (tree_named now) inputs);
+        delivered = None;
+      } in
       record {
         tried = record { callers = happens.callers ∙ tried.callers; workers = happens.workers ∙ tried.workers };
         goal = new.goal;

@@ -337,7 +337,7 @@ fn number_held(core: &Core<MatLib>, id: Id) -> Option<i128>
     number_at(core, id)
 }
 
-// ---- Both tests
+// ---- The course of a sum
 
 // A number, its copy, and the task of their sum.
 fn ask_sum(alloc: Global, core: &mut Core<MatLib>) -> Result<(Id, Id, TaskNo), Refused>
@@ -365,24 +365,27 @@ fn begin_again(
     execute(alloc, core, 2, task)
 }
 
-// While a task runs, the caller deletes two identifiers, worker 0 tries to begin the task, and the caller tries to give up and to collect.
-// Answers the status that the worker is told, and how many tasks the caller.
-fn try_meanwhile(
-    core: &mut Core<MatLib>,
-    a: Id,
-    b: Id,
-    task: TaskNo,
-) -> Result<(TaskStatus, u32), Refused>
-    requires { Awaits task core.old }
-    ensures awaits { OnOk result (Awaits task core.new) }
-    ensures sound { OnOk result ((w : ℕ) (outcome : AnyOutcome AnyChunk AnyKind) → MayFinish core.old w outcome → MayFinish core.new w outcome) }
+// The caller deletes two identifiers while a task runs.
+fn delete_both(core: &mut Core<MatLib>, a: Id, b: Id) -> Result<(), Refused>
+    requires { IsTried core.old }
+    ensures tried { IsTried core.new }
+    ensures awaits { (task : ℕ) → Awaits task core.old → Awaits task core.new }
+    ensures sound { (w : ℕ) (outcome : AnyOutcome AnyChunk AnyKind) → MayFinish core.old w outcome → MayFinish core.new w outcome }
 {
     delete(core, a)?;
-    delete(core, b)?;
+    delete(core, b)
+}
+
+// Worker 0 tries to begin a task that runs, and the caller to give up and to collect. Answers what each is told: the status, how many
+// tasks run, and that the output is not there.
+fn try_meanwhile(core: &mut Core<MatLib>, task: TaskNo) -> Result<(TaskStatus, u32, bool), Refused>
+    requires { Awaits task core.old }
+    ensures { OnOk result (core.new ≡ core.old) }
+{
     let status = refusal(core, 0, task)?;
     let tasks = running(core)?;
     if not_yet(core, task) {
-        Ok((status, tasks))
+        Ok((status, tasks, true))
     } else {
         Err(Refused::Condition)
     }
@@ -402,6 +405,55 @@ fn only_number(outcome: &Outcome<MatChunk, MatKind>) -> Option<i128> {
         },
         _ => None,
     }
+}
+
+// What a caller gets of a task that worker 2 finishes.
+#[derive(Drop, Debug, PartialEq)]
+struct Collecting {
+    // How many tasks became ready.
+    ready: usize,
+    // Whether the output was held before it was collected.
+    held: bool,
+    // What is told of a task that is finished.
+    status: TaskStatus,
+    // The output, and its number.
+    got: Ref,
+    number: Option<i128>,
+}
+
+// The number that a reference names, where the caller holds it and it names one.
+fn number_named(core: &Core<MatLib>, r: Ref) -> Option<i128>
+    requires { IsTried core.now }
+{
+    match r {
+        Ref::Null => None,
+        Ref::Id(id) => number_held(core, id),
+    }
+}
+
+// Worker 2 finishes a task, and the caller collects its output.
+fn end(
+    core: &mut Core<MatLib>,
+    task: TaskNo,
+    outcome: Outcome<MatChunk, MatKind>,
+    output: Id,
+) -> Result<Collecting, Refused>
+    requires awaits { Awaits task core.old }
+    requires sound { MayFinish core.old 2 outcome }
+    ensures { OnOk result (IsTried core.new) }
+{
+    let ready = finish(core, 2, task, outcome)?;
+    let held = core.holds(0, output);
+    let status = refusal(core, 0, task)?;
+    let got = collect(core, task)?;
+    let number = number_named(core, got);
+    Ok(Collecting {
+        ready,
+        held,
+        status,
+        got,
+        number,
+    })
 }
 
 // What an event is.
@@ -433,36 +485,144 @@ fn told(alloc: Global, core: Core<MatLib>) -> Result<String, Memory> {
     Ok(text)
 }
 
+// What is seen of the course of a sum to its end.
+#[derive(Drop, Debug, PartialEq)]
+struct Course {
+    // The number, its copy, and the task.
+    made: (Id, Id, TaskNo),
+    // The number of the outcome.
+    outcome: Option<i128>,
+    // The task that worker 2 runs.
+    runs: Option<TaskNo>,
+    // What is told while the task runs.
+    meanwhile: (TaskStatus, u32, bool),
+    // Whether an identifier that was deleted is held.
+    held: bool,
+    // What is told at the end, and whether nothing is left.
+    collecting: Collecting,
+    empty: bool,
+}
+
+// The sum is asked, and runs on worker 2.
+fn begin_course(
+    alloc: Global,
+    core: &mut Core<MatLib>,
+) -> Result<((Id, Id, TaskNo), Outcome<MatChunk, MatKind>), Refused>
+    requires { GoesOn core.old }
+    ensures awaits { IfOk result (λ both. Awaits both.0.2 core.new) }
+    ensures sound { IfOk result (λ both. MayFinish core.new 2 both.1) }
+{
+    let made = ask_sum(alloc, core)?;
+    let outcome = begin_again(alloc, core, made.2)?;
+    Ok((made, outcome))
+}
+
+fn run_course(alloc: Global, core: &mut Core<MatLib>, output: Id) -> Result<Course, Refused>
+    requires { GoesOn core.old }
+{
+    let (made, outcome) = begin_course(alloc, core)?;
+    let number = only_number(&outcome);
+    let runs = core.runs(2);
+    delete_both(core, made.0, made.1)?;
+    let held = core.holds(0, made.0);
+    let meanwhile = try_meanwhile(core, made.2)?;
+    let collecting = end(core, made.2, outcome, output)?;
+    delete(core, output)?;
+    Ok(Course {
+        made,
+        outcome: number,
+        runs,
+        meanwhile,
+        held,
+        collecting,
+        empty: core.is_empty(),
+    })
+}
+
+// A sum runs to its end. Answers what is seen of it, and its events.
+fn whole_course(alloc: Global, output: Id) -> Result<(Course, String), Refused> {
+    let mut core = open(alloc)?;
+    let seen = run_course(alloc, &mut core, output)?;
+    Ok((seen, told(alloc, core)?))
+}
+
+// What there is to do after an ask, after a start, and after a stop.
+fn stop_course(alloc: Global, core: &mut Core<MatLib>, task: TaskNo) -> Result<[Idle; 3], Refused>
+    requires { Awaits task core.old }
+    ensures { OnOk result (Awaits task core.new) }
+{
+    let ready = core.idle();
+    let _dropped = execute(alloc, core, 1, task)?;
+    let runs = core.idle();
+    stop(core, task);
+    Ok([ready, runs, core.idle()])
+}
+
+// A caller that was stopped is told so, and gives up once its task was given back. Answers how many tasks ran when it tried before.
+fn give_up(core: &mut Core<MatLib>, task: TaskNo) -> Result<u32, Refused>
+    requires { Awaits task core.old }
+    ensures { OnOk result (IsTried core.new) }
+{
+    if !told_to_stop(core, task) {
+        return Err(Refused::Condition);
+    }
+    let tasks = running(core)?;
+    give_back(core, 1, task)?;
+    if gave_up(core) {
+        Ok(tasks)
+    } else {
+        Err(Refused::Condition)
+    }
+}
+
+// A caller that was stopped gives up. Answers what there was to do, how many tasks ran when it tried, and whether nothing is left once
+// it deleted what it holds.
+fn stopped_course(alloc: Global) -> Result<([Idle; 3], u32, bool), Refused> {
+    let mut core = open(alloc)?;
+    let made = ask_sum(alloc, &mut core)?;
+    let to_do = stop_course(alloc, &mut core, made.2)?;
+    let tasks = give_up(&mut core, made.2)?;
+    delete_both(&mut core, made.0, made.1)?;
+    Ok((to_do, tasks, core.is_empty()))
+}
+
 // ---- Tests
 
 #[test]
 fn a_sum_that_was_given_back_is_finished_and_collected(rt: HostRuntime) -> Result<(), Fail> {
-    let alloc = rt.alloc();
-    let mut core = open(alloc)?;
-    let (a, b, task) = ask_sum(alloc, &mut core)?;
-    assert_eq!(rt; a, Id { owner: 0, number: 2 });
-    assert_eq!(rt; b, Id { owner: 0, number: 3 });
-    assert_eq!(rt; task, 4);
-    let outcome = begin_again(alloc, &mut core, task)?;
-    assert_eq!(rt; core.runs(1), None);
-    assert_eq!(rt; core.runs(2), Some(4));
-    assert_eq!(rt; only_number(&outcome), Some(10));
-    assert_eq!(rt; outcome.result, Place::Chunk(0));
-    let (status, tasks) = try_meanwhile(&mut core, a, b, task)?;
-    assert_eq!(rt; status, TaskStatus::Running);
-    assert_eq!(rt; tasks, 1);
-    assert!(rt; !core.holds(0, a));
-    let ready = finish(&mut core, 2, task, outcome)?;
-    assert_eq!(rt; ready, 0);
-    let sum = Id { owner: 2, number: 7 };
-    assert!(rt; !core.holds(0, sum));
-    assert_eq!(rt; refusal(&mut core, 0, task)?, TaskStatus::Unknown);
-    assert_eq!(rt; collect(&mut core, task)?, Ref::Id(sum));
-    assert_eq!(rt; number_held(&core, sum), Some(10));
-    delete(&mut core, sum)?;
-    assert!(rt; core.is_empty());
+    let output = Id {
+        owner: 2,
+        number: 7,
+    };
+    let (seen, events) = whole_course(rt.alloc(), output)?;
+    let wanted = Course {
+        made: (
+            Id {
+                owner: 0,
+                number: 2,
+            },
+            Id {
+                owner: 0,
+                number: 3,
+            },
+            4,
+        ),
+        outcome: Some(10),
+        runs: Some(4),
+        meanwhile: (TaskStatus::Running, 1, true),
+        held: false,
+        collecting: Collecting {
+            ready: 0,
+            held: false,
+            status: TaskStatus::Unknown,
+            got: Ref::Id(output),
+            number: Some(10),
+        },
+        empty: true,
+    };
+    assert!(rt; seen == wanted);
     assert_eq!(rt;
-        told(alloc, core)?.as_str(),
+        events.as_str(),
         "register copy ask start give_back start delete delete finish collect delete "
     );
     Ok(())
@@ -470,21 +630,8 @@ fn a_sum_that_was_given_back_is_finished_and_collected(rt: HostRuntime) -> Resul
 
 #[test]
 fn a_caller_that_was_stopped_gives_up(rt: HostRuntime) -> Result<(), Fail> {
-    let alloc = rt.alloc();
-    let mut core = open(alloc)?;
-    let (a, b, task) = ask_sum(alloc, &mut core)?;
-    assert_eq!(rt; core.idle(), Idle::Run(4));
-    let _dropped = execute(alloc, &mut core, 1, task)?;
-    assert_eq!(rt; core.idle(), Idle::Later);
-    stop(&mut core, task);
-    assert_eq!(rt; core.idle(), Idle::End);
-    assert!(rt; told_to_stop(&mut core, task));
-    assert_eq!(rt; running(&mut core)?, 1);
-    give_back(&mut core, 1, task)?;
-    assert!(rt; gave_up(&mut core));
-    delete(&mut core, a)?;
-    delete(&mut core, b)?;
-    assert!(rt; !core.holds(0, a));
-    assert!(rt; core.is_empty());
+    let (to_do, tasks, empty) = stopped_course(rt.alloc())?;
+    assert!(rt; to_do == [Idle::Run(4), Idle::Later, Idle::End]);
+    assert!(rt; tasks == 1 && empty);
     Ok(())
 }
