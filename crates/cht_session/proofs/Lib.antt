@@ -20,3 +20,4 @@ pub mod Writing
 pub mod Agreeing
 pub mod Underway
 pub mod Turning
+pub mod Served

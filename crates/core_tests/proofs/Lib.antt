@@ -1,1 +1,2 @@
 pub mod HeldAfter
+pub mod Trying

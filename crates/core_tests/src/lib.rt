@@ -5,3 +5,4 @@
 mod engine_calls;
 #[cfg(test)]
 mod journal_calls;
+mod core_calls;
