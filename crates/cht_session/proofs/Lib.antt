@@ -20,4 +20,3 @@ pub mod Writing
 pub mod Agreeing
 pub mod Underway
 pub mod Turning
-pub mod Served

@@ -22,9 +22,3 @@ pub use ended::Ended;
 pub use entries::entries_of;
 pub use library::MatLib;
 pub use run::run_script;
-//! The library of matrices: what the tasks on matrices are.
-#![tactic(auto)]
-
-mod library;
-
-pub use library::MatLib;

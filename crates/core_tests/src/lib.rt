@@ -1,8 +1,9 @@
-//! Tests of a core over the library of matrices.
+//! Tests of a core and of the engine on one thread over the library of matrices, and of the text of a journal.
 #![tactic(auto)]
 
+#[cfg(test)]
+mod core_calls;
 #[cfg(test)]
 mod engine_calls;
 #[cfg(test)]
 mod journal_calls;
-mod core_calls;
