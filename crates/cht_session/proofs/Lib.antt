@@ -3,3 +3,17 @@ pub mod CellRows
 pub mod Served
 pub mod SquareJoins
 pub mod TreePieces
+pub mod ListedEntries
+pub mod Identifiers
+pub mod Bindings
+pub mod Order
+pub mod Kept
+pub mod Asked
+pub mod Assigned
+pub mod Completed
+pub mod Matrices
+pub mod Shown
+pub mod Effects
+pub mod Doing
+pub mod CompletedCells
+pub mod Writing

@@ -1,2 +1,11 @@
 pub mod BlockTrees
 pub mod SquareCells
+pub mod Program
+pub mod Works
+pub mod Listed
+pub mod Operations
+pub mod Bindings
+pub mod Held
+pub mod Given
+pub mod Running
+pub mod Numbers
