@@ -18,14 +18,14 @@ entries_of-requires-clause-canonical g c =
     name_block seen seen c.args.held.now c.requires.well.0 _ c.in-Some.a c.requires.well.1 (sym c.in-Some.ensures)
 
 pub returns-in_err-cells-clause-going : goal.returns-in_err-cells-clause-going
-returns-in_err-cells-clause-going g c = stays_still (g.E.Engine.seen c.args.engine.now) (g.E.Engine.seen c.entries_of.new._engine) c.args.held.now c.requires.well c.entries_of.ensures.unchanged
+returns-in_err-cells-clause-going g c = stays_still (g.E.Engine.seen c.args.engine.now) (g.E.Engine.seen c.entries_of.new.engine) c.args.held.now c.requires.well c.entries_of.ensures.unchanged
 
 pub returns-clause-acts : goal.returns-clause-acts
 returns-clause-acts g c = λ line env shown.
     let found = subst (λ n. found_in c.args.held.now n ≡ Some c.in-Some.a) c.as_bytes.ensures (sym c.in-Some.ensures) in
-    print_stated c.args.names.now (g.E.Engine.seen c.args.engine.now) (g.E.Engine.seen c.entries_of.new._engine) c.args.held.now env c.in-Some.a c.requires.count shown found line
+    print_stated c.args.names.now (g.E.Engine.seen c.args.engine.now) (g.E.Engine.seen c.entries_of.new.engine) c.args.held.now env c.in-Some.a c.requires.count shown found line
     c.in_ok-cells.cells c.write_cells.result (g.K.Sink.took c.args.out.now) (g.K.Sink.took c.write_cells.new.out) c.entries_of.ensures.unchanged c.in_ok-cells.ensures.listed
     (rw c.as_slice.ensures at c.write_cells.ensures.written)
 
 pub returns-clause-going : goal.returns-clause-going
-returns-clause-going g c = stays_still (g.E.Engine.seen c.args.engine.now) (g.E.Engine.seen c.entries_of.new._engine) c.args.held.now c.requires.well c.entries_of.ensures.unchanged
+returns-clause-going g c = stays_still (g.E.Engine.seen c.args.engine.now) (g.E.Engine.seen c.entries_of.new.engine) c.args.held.now c.requires.well c.entries_of.ensures.unchanged

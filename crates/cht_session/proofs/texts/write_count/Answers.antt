@@ -20,7 +20,7 @@ entries_of-requires-clause-canonical g c =
     name_block seen seen c.args.held.now c.requires.well.0 _ c.in-Some.a c.requires.well.1 (sym c.in-Some.ensures)
 
 pub returns-in_err-cells-clause-going : goal.returns-in_err-cells-clause-going
-returns-in_err-cells-clause-going g c = stays_still (g.E.Engine.seen c.args.engine.now) (g.E.Engine.seen c.entries_of.new._engine) c.args.held.now c.requires.well c.entries_of.ensures.unchanged
+returns-in_err-cells-clause-going g c = stays_still (g.E.Engine.seen c.args.engine.now) (g.E.Engine.seen c.entries_of.new.engine) c.args.held.now c.requires.well c.entries_of.ensures.unchanged
 
 pub returns-clause-acts : goal.returns-clause-acts
 returns-clause-acts g c = λ line env shown.
@@ -28,9 +28,9 @@ returns-clause-acts g c = λ line env shown.
     let took = g.K.Sink.took c.args.out.now in
     let after = g.K.Sink.took c.write_line.new.out in
     let written : IsWritten c.write_line.result true (number_text (pos (length c.in_ok-cells.cells)) ++ 10 ∷ []) took after = search rules in
-    count_stated c.args.names.now (g.E.Engine.seen c.args.engine.now) (g.E.Engine.seen c.entries_of.new._engine) c.args.held.now env c.in-Some.a c.requires.count shown found line
+    count_stated c.args.names.now (g.E.Engine.seen c.args.engine.now) (g.E.Engine.seen c.entries_of.new.engine) c.args.held.now env c.in-Some.a c.requires.count shown found line
     c.in_ok-cells.cells c.write_line.result (g.K.Sink.took c.args.out.now) (g.K.Sink.took c.write_line.new.out) c.entries_of.ensures.unchanged c.in_ok-cells.ensures.listed
     written
 
 pub returns-clause-going : goal.returns-clause-going
-returns-clause-going g c = stays_still (g.E.Engine.seen c.args.engine.now) (g.E.Engine.seen c.entries_of.new._engine) c.args.held.now c.requires.well c.entries_of.ensures.unchanged
+returns-clause-going g c = stays_still (g.E.Engine.seen c.args.engine.now) (g.E.Engine.seen c.entries_of.new.engine) c.args.held.now c.requires.well c.entries_of.ensures.unchanged
