@@ -1,29 +1,25 @@
 -- What the calls of an engine leave of what its caller sees.
-use Rattle.std.proofs.Common.{◌≡◌, ℕ, List, [], ◌∷◌, ◌++◌, Option, Some, None, refl, sym, ap, ◌∙◌, subst, append-nil, append_assoc}
+use Rattle.std.proofs.Common.{◌≡◌, ℕ, List, [], ◌∷◌, ◌++◌, refl, sym, ap, ◌∙◌, subst, append-nil, append_assoc}
 use Rattle.std.specs.Prelude.{Result, Ok, Err, IfOk, ℤ}
 use Rattle.std.specs.FinMap as map
 use Rattle.cht_ids.specs.declared.memory.Memory.{Memory}
-use Rattle.cht_ids.specs.declared.refs.Id.{Id}
 use Rattle.cht_ids.specs.declared.refs.Ref.{Ref}
 use Rattle.cht_ids.specs.declared.refs.Ref.TheVariants.{Null, Id as Held}
-use Rattle.task_types.specs.Tree.{Tree, Nothing, Root, rooted}
+use Rattle.task_types.specs.Tree.{Tree, Nothing, Root}
 use Rattle.cht_history.specs.declared.event.Event.{Event}
-use Rattle.cht_history.specs.declared.event.Event.TheVariants.{Register, Copy, Delete, Ask, Collect}
-use Rattle.cht_engine.specs.Seen.{Seen, Holds, MayMention, of_owner, tree_named, tree_of_named, with_name, IsNew}
-use Rattle.cht_engine.specs.Calls.{trees_named, IsRegistered, IsCopied, deleted, IsOutput, with_output, IsAsked, answered, IsGivenUp}
+use Rattle.cht_history.specs.declared.event.Event.TheVariants.{Ask, Collect}
+use Rattle.cht_engine.specs.Seen.{Seen, MayMention, tree_named, tree_of_named}
+use Rattle.cht_engine.specs.Calls.{trees_named, deleted, IsOutput, with_output, IsAsked, IsGivenUp}
 use Rattle.quad_matrix.specs.declared.chunk.MatChunk.{MatChunk}
-use Rattle.quad_matrix.specs.declared.chunk.MatChunk.TheVariants as chunk
-use Rattle.quad_matrix.specs.declared.chunk.Entries.{Entries}
 use Rattle.quad_matrix.specs.declared.kind.MatKind.{MatKind}
-use Rattle.quad_matrix.specs.declared.kind.What.TheVariants.{Assign, Trace}
-use Rattle.quad_matrix.specs.Blocks.{alone, number_of}
+use Rattle.quad_matrix.specs.declared.kind.What.TheVariants.{Trace}
+use Rattle.quad_matrix.specs.Blocks.{number_of}
 use Rattle.quad_matrix.specs.Goals.{kind_of, goal_of}
 use Rattle.quad_matrix.specs.Matrices.{matrices}
-use Rattle.quad_matrix.specs.Works.{work_of}
-use Rattle.cht_session.specs.Program.{IsNullIf, deletes, AreOfList}
-use Rattle.cht_session.specs.Held.{Names, IsNameOf, without}
-use Rattle.cht_session.specs.Given.{IsGiven, IsAnswered, IsUndone, IsAssigned, IsTraced, Traces}
-use Rattle.cht_session.proofs.Identifiers.{given_here, named_is_held, around}
+use Rattle.cht_session.specs.Program.{deletes}
+use Rattle.cht_session.specs.Held.{IsNameOf, without}
+use Rattle.cht_session.specs.Given.{IsGiven, IsAnswered, IsUndone, IsTraced, Traces}
+use Rattle.cht_session.proofs.Identifiers.{given_here, named_is_held}
 
 -- ---- Outputs
 

@@ -1,16 +1,16 @@
 -- The tree of a list of entries, which an engine is asked for.
-use Rattle.std.proofs.Common.{◌≡◌, ℕ, ◌+◌, ◌≤◌, Bool, true, false, not, List, [], ◌∷◌, ◌++◌, Option, Some, None, refl, sym, ap, ◌∙◌, subst, append_assoc}
-use Rattle.std.specs.Prelude.{Result, Ok, Err, IfOk}
+use Rattle.std.proofs.Common.{◌≡◌, ℕ, ◌+◌, ◌≤◌, true, false, not, List, [], ◌∷◌, ◌++◌, None, refl, sym, ap, ◌∙◌, subst, append_assoc}
+use Rattle.std.specs.Prelude.{Result, Ok, Err}
 use Rattle.std.specs.FinMap as map
 use Rattle.name_states.proofs.Basics.{inserted_here}
 use Rattle.cht_ids.specs.declared.memory.Memory.{Memory}
 use Rattle.cht_ids.specs.declared.refs.Id.{Id}
 use Rattle.cht_ids.specs.declared.refs.Ref.{Ref}
 use Rattle.cht_ids.specs.declared.refs.Ref.TheVariants.{Null, Id as Held}
-use Rattle.task_types.specs.Tree.{Tree, Nothing, Root, is_there, rooted}
+use Rattle.task_types.specs.Tree.{Tree, Nothing, Root, is_there}
 use Rattle.cht_history.specs.declared.event.Event.{Event}
 use Rattle.cht_history.specs.declared.event.Event.TheVariants.{Register, Delete, Ask, Collect}
-use Rattle.cht_engine.specs.Seen.{Seen, MayMention, tree_named, tree_of_named, IsNew}
+use Rattle.cht_engine.specs.Seen.{Seen, MayMention, tree_of_named}
 use Rattle.cht_engine.specs.Calls.{trees_named, IsRegistered, deleted, IsOutput, IsAsked}
 use Rattle.quad_matrix.specs.declared.chunk.MatChunk.{MatChunk}
 use Rattle.quad_matrix.specs.declared.chunk.MatChunk.TheVariants as chunk
@@ -25,8 +25,8 @@ use Rattle.quad_matrix.specs.Matrices.{matrices}
 use Rattle.quad_matrix.specs.Works.{work_of}
 use Rattle.quad_matrix.proofs.ForOthers.{sound_some, is_there_some, goal_any}
 use Rattle.cht_session.specs.Program.{IsNullIf}
-use Rattle.cht_session.specs.Held.{Names, IsNameOf, without}
-use Rattle.cht_session.specs.Given.{IsGiven, IsAnswered, IsUndone, IsAssigned, Assigns}
+use Rattle.cht_session.specs.Held.{Names, IsNameOf}
+use Rattle.cht_session.specs.Given.{IsGiven, IsUndone, IsAssigned, Assigns}
 use Rattle.cht_session.proofs.Identifiers.{named_given, removed_again, around}
 use Rattle.cht_session.proofs.Asked.{asked_answered, deleted_is, named_mentioned}
 

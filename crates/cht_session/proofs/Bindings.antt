@@ -1,19 +1,17 @@
 -- Names and their bindings, as one is bound or ended.
-use Rattle.std.proofs.Common.{◌≡◌, ℕ, Bool, true, false, cond, ◌⊎◌, inl, inr, List, [], ◌∷◌, ◌++◌, length, Option, Some, None, refl, sym, ap, ap₂, ◌∙◌, subst}
-use Rattle.std.specs.Prelude.{not, is_none, IfSome, option_map, map, filter, slice_get, slice_set, ◌||◌}
+use Rattle.std.proofs.Common.{◌≡◌, ℕ, Bool, true, false, cond, inl, inr, List, [], ◌∷◌, ◌++◌, Option, Some, None, refl, sym, ap, ap₂, ◌∙◌, subst}
+use Rattle.std.specs.Prelude.{not, option_map, slice_set}
 use Rattle.std.specs.Str.{bytes_eq}
 use Rattle.std.specs.Cmp.Lexicographic.{bytes_decides}
-use Rattle.std.proofs.lemmas.Bool.{cases_Bool, false≢true, true≢false}
+use Rattle.std.proofs.lemmas.Bool.{cases_Bool, true≢false}
 use Rattle.mm_text.specs.Faults.{or_else}
-use Rattle.cht_ids.specs.declared.refs.Ref.{Ref}
 use Rattle.cht_script.specs.Newest.{newest}
-use Rattle.cht_script.specs.Meaning.{Known, is_named, without_name, matrix_found, matrix_named}
-use Rattle.cht_script.proofs.Newest.{newest-push}
+use Rattle.cht_script.specs.Meaning.{Known, is_named, without_name}
 use Rattle.cht_session.specs.declared.held.Binding.{Binding}
 use Rattle.cht_ids.specs.declared.refs.Ref.TheVariants.{Null}
 use Rattle.cht_session.specs.declared.held.Held.{Held}
-use Rattle.cht_session.specs.Bindings.{found_in, Puts, IsAdded, EndsAs, IsEnded}
-use Rattle.cht_session.specs.Program.{Bound, known_in, is_bound_as, left_without, reference_found, reference_named}
+use Rattle.cht_session.specs.Bindings.{found_in, Puts, EndsAs, IsEnded}
+use Rattle.cht_session.specs.Program.{Bound, known_in, is_bound_as, left_without}
 use Rattle.cht_session.specs.Held.{IsOf, Finds}
 
 -- ---- Names

@@ -1,12 +1,10 @@
 -- Matrices that are completed by zeros to squares.
-use Rattle.std.proofs.Common.{◌≡◌, ℕ, ◌+◌, ◌-◌, ◌*◌, ◌^◌, ◌<◌, ◌≤◌, List, [], length, get_or, ℤ, pos, ◌+ℤ◌, refl, sym, ap, ap₂, ◌∙◌, subst, arith, inl, inr, le_antisymm}
+use Rattle.std.proofs.Common.{◌≡◌, ℕ, ◌+◌, ◌-◌, ◌*◌, ◌^◌, ◌<◌, ◌≤◌, ℤ, pos, ◌+ℤ◌, refl, sym, ap, ap₂, ◌∙◌, subst, arith, inl, inr, le_antisymm}
 use Rattle.std.proofs.lemmas.Bool.{cases_lt}
 use Rattle.std.proofs.lemmas.Int.{ints}
-use Rattle.std.proofs.lemmas.List.{get_or_past}
-use Rattle.std.proofs.lemmas.List.Elements.{All-get_or}
 use Rattle.dense_def.specs.Matrix.{Matrix, height, entry, IsMatrix, made, plus, trace_of, zeros, peak_of, sum_below, magnitudes_below, TraceFits, completed}
 use Rattle.dense_def.proofs.Sums.{sum_below_ext, sum_below_split, sum_below_zero, magnitudes_below_ext, magnitudes_below_split, magnitudes_below_bound}
-use Rattle.dense_def.proofs.Entries.{height-made, entry_made, IsMatrix-made, made_ext, made_same, made_entry}
+use Rattle.dense_def.proofs.Entries.{IsMatrix-made, made_ext, made_same, made_entry}
 use Rattle.dense_def.proofs.Operations.{entry-plus, height-plus}
 use Rattle.dense_def.proofs.Peaks.{entry_le_peak, peak_least, peak-zero}
 use Rattle.dense_def.proofs.Completed.{entry_below, entry_right, height-completed, entry-completed}

@@ -1,7 +1,7 @@
 -- The cells of a matrix that is completed by zeros are those of the matrix.
-use Rattle.std.proofs.Common.{◌≡◌, ℕ, zero, suc, ◌+◌, ◌-◌, ◌<◌, ◌≤◌, Bool, true, false, cond, List, [], ◌∷◌, ◌++◌, length, ℤ, pos, refl, sym, ap, ap₂, ◌∙◌, subst, arith, append_assoc, append-nil}
-use Rattle.dense_def.specs.Matrix.{completed, Matrix, height, entry, IsMatrix, made, tabulate}
-use Rattle.dense_def.proofs.Entries.{length-tabulate, tabulate_ext, made_entry}
+use Rattle.std.proofs.Common.{◌≡◌, ℕ, zero, suc, ◌+◌, ◌-◌, ◌<◌, ◌≤◌, Bool, true, false, cond, List, [], ◌∷◌, ◌++◌, length, ℤ, pos, refl, sym, ap, ap₂, ◌∙◌, arith, append_assoc, append-nil}
+use Rattle.dense_def.specs.Matrix.{completed, Matrix, height, entry, IsMatrix, tabulate}
+use Rattle.dense_def.proofs.Entries.{tabulate_ext, made_entry}
 use Rattle.dense_def.proofs.Completed.{entry_right, entry_below}
 use Rattle.mm_text.specs.declared.market.Cell.{Cell}
 use Rattle.mm_text.specs.Cells.{is_zero, cells_of_row, cells_of_rows, cells_of}

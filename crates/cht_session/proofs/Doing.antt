@@ -1,8 +1,7 @@
 -- The statements that bind or end a name.
-use Rattle.std.proofs.Common.{◌≡◌, ℕ, ◌+◌, ◌-◌, ◌≤◌, true, false, not, List, [], ◌∷◌, ◌++◌, Option, Some, None, refl, sym, ap, ap₂, ◌∙◌, subst, ℤ}
-use Rattle.std.specs.Prelude.{Result, Ok, Err}
+use Rattle.std.proofs.Common.{◌≡◌, ℕ, ◌+◌, true, false, not, List, [], ◌∷◌, ◌++◌, Option, Some, None, refl, sym, ap, ap₂, ◌∙◌, subst, ℤ}
+use Rattle.std.specs.Prelude.{Ok, Err}
 use Rattle.std.specs.FinMap as map
-use Rattle.dense_def.specs.Matrix.{Matrix, height}
 use Rattle.dense_def.proofs.Entries.{height-made, IsMatrix-made}
 use Rattle.cht_ids.specs.declared.memory.Memory.{Memory}
 use Rattle.cht_ids.specs.declared.refs.Ref.{Ref}
@@ -18,7 +17,7 @@ use Rattle.mm_text.specs.declared.market.Market.{Market}
 use Rattle.mm_text.specs.Block.{number_listed}
 use Rattle.cht_script.specs.declared.script.Names.{Names}
 use Rattle.cht_script.specs.declared.script.Verb.TheVariants as verb
-use Rattle.cht_script.specs.Statements.{shapes_fit, general}
+use Rattle.cht_script.specs.Statements.{shapes_fit}
 use Rattle.cht_script.specs.Meaning.{Lists, Acts as Does, matrix_named, form_named, is_refused, matrix_given}
 use Rattle.cht_script.specs.Reading.{name_bytes, names_of, matrix_of_market, IsGoodMarket}
 use Rattle.cht_session.specs.declared.held.Binding.{Binding}
@@ -35,7 +34,7 @@ use Rattle.cht_session.proofs.Asked.{nothing_done}
 use Rattle.cht_session.proofs.ListedEntries.{listed_side}
 use Rattle.cht_session.proofs.Matrices.{given_tall, given_wide}
 use Rattle.cht_session.proofs.Shown.{shown_same, going_undone, is_found}
-use Rattle.cht_session.proofs.Effects.{one_name, two_names, three_names, IsBoundIn, IsMade, effect_same, effect_going, going_same, made_effect, made_left, copy_made, refused_operation, form_of, form_general, after_operation, pair_tested, pair_ready, pair_made, market_made, delete_effect, delete_ready}
+use Rattle.cht_session.proofs.Effects.{one_name, two_names, three_names, IsBoundIn, IsMade, effect_same, going_same, made_effect, made_left, copy_made, refused_operation, form_of, form_general, after_operation, pair_tested, pair_ready, pair_made, market_made, delete_effect}
 
 -- ---- Where nothing was done
 

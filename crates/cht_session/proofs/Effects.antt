@@ -1,18 +1,14 @@
 -- What the calls of a statement do is what the statement does.
 use Rattle.std.proofs.Common.{◌≡◌, ℕ, ◌+◌, ◌≤◌, Bool, true, false, not, cond, List, [], ◌∷◌, ◌++◌, take, Option, Some, None, refl, sym, ap, ap₂, ◌∙◌, subst, subst₂, append-nil, arith}
-use Rattle.std.specs.Prelude.{map as each, Result, Ok, Err, slice_set}
+use Rattle.std.specs.Prelude.{Ok}
 use Rattle.std.specs.FinMap as map
 use Rattle.std.specs.Str.{bytes_eq}
-use Rattle.std.proofs.lemmas.Bool.{cases_Bool}
-use Rattle.dense_def.specs.Matrix.{Matrix, height, IsMatrix, peak_of, completed}
-use Rattle.cht_ids.specs.declared.memory.Memory.{Memory}
-use Rattle.cht_ids.specs.declared.refs.Id.{Id}
+use Rattle.dense_def.specs.Matrix.{Matrix, height, IsMatrix, completed}
 use Rattle.cht_ids.specs.declared.refs.Ref.{Ref}
 use Rattle.cht_ids.specs.declared.refs.Ref.TheVariants.{Null, Id as HeldId}
-use Rattle.task_types.specs.Tree.{Tree, Nothing, is_there}
 use Rattle.cht_history.specs.declared.event.Event.{Event}
 use Rattle.cht_history.specs.declared.event.Event.TheVariants.{Ask, Collect, Copy as CopyEvent}
-use Rattle.cht_engine.specs.Seen.{Seen, MayMention, MayMentionAll, tree_named}
+use Rattle.cht_engine.specs.Seen.{Seen, MayMention, tree_named}
 use Rattle.cht_engine.specs.Calls.{trees_named, IsCopied, deleted, IsOutput}
 use Rattle.chunk_codec.specs.Spots.{side_of}
 use Rattle.quad_matrix.specs.declared.chunk.MatChunk.{MatChunk}
@@ -23,7 +19,6 @@ use Rattle.quad_matrix.specs.Works.{assign_work, work_of}
 use Rattle.mm_text.specs.declared.market.Form.{Form}
 use Rattle.mm_text.specs.declared.market.Form.TheVariants.{General}
 use Rattle.cht_script.specs.declared.script.Names.{Names}
-use Rattle.cht_script.specs.declared.script.Verb.{Verb}
 use Rattle.cht_script.specs.declared.script.Verb.TheVariants as verb
 use Rattle.cht_script.specs.Statements.{shapes_fit, general}
 use Rattle.cht_script.specs.Meaning.{Known, Deed, Lists, Acts as Does, named_matrix, matrix_named, form_named, is_bounded, matrix_given, is_refused}
@@ -33,20 +28,20 @@ use Rattle.cht_session.specs.declared.held.Binding.{Binding}
 use Rattle.cht_session.specs.declared.held.Held.{Held}
 use Rattle.cht_session.specs.declared.operation.Operation.{Operation}
 use Rattle.cht_session.specs.declared.operation.Operation.TheVariants.{Add, Mul, TMul, MulT}
-use Rattle.cht_session.specs.Operations.{verb_of, what_of, fits_by, sizes_of}
+use Rattle.cht_session.specs.Operations.{verb_of, what_of}
 use Rattle.cht_session.specs.Numbers.{root_peak}
 use Rattle.cht_session.specs.Listed.{IsListOf}
-use Rattle.cht_session.specs.Bindings.{found_in, shape_at, IsSameHeld, Puts, IsAdded, EndsAs, IsEnded}
-use Rattle.cht_session.specs.Program.{Bound, known_in, is_bound_as, left_without, references, reference_found, reference_named, with_reference, env_after, deletes, IsNullIf, is_zero, AreOfDeed, AreOfAsk, AreOfCopy, AreOfMarket, AreOfList}
+use Rattle.cht_session.specs.Bindings.{found_in, shape_at, IsSameHeld, IsAdded, EndsAs, IsEnded}
+use Rattle.cht_session.specs.Program.{Bound, known_in, is_bound_as, left_without, reference_found, reference_named, with_reference, env_after, deletes, IsNullIf, is_zero, AreOfDeed, AreOfAsk, AreOfCopy, AreOfMarket, AreOfList}
 use Rattle.cht_session.specs.Works.{tree_of, work_by, work_of_list}
-use Rattle.cht_session.specs.Held.{Names as Identifiers, without, IsSoundMatrix, IsShown, IsLeft}
-use Rattle.cht_session.specs.Given.{IsGiven, IsAnswered, IsUndone, fits_at, IsReadyPair, Combines, Assigns, IsAssignable, AssignsAny}
-use Rattle.cht_session.specs.Running.{IsEffect, IsGoing, BindsIn, Binds}
+use Rattle.cht_session.specs.Held.{without, IsSoundMatrix, IsShown}
+use Rattle.cht_session.specs.Given.{IsGiven, fits_at, IsReadyPair, Combines, AssignsAny}
+use Rattle.cht_session.specs.Running.{IsEffect, IsGoing}
 use Rattle.cht_session.proofs.Asked.{deleted_is}
 use Rattle.cht_session.proofs.Assigned.{output_null}
 use Rattle.cht_session.proofs.Bindings.{bytes_same, left_all, finds_nothing}
 use Rattle.cht_session.proofs.Matrices.{tree_peak, tree_null, combined_tested, combined_fits, combined_sound, listed_sound, listed_some, listed_work, empty_sound}
-use Rattle.cht_session.proofs.Shown.{shown_same, shown_seen, shown_left, going_undone, IsFoundIn, is_found, shown_added, left_added, shown_ended}
+use Rattle.cht_session.proofs.Shown.{shown_same, shown_seen, shown_left, is_found, shown_added, left_added, shown_ended}
 
 -- ---- The names of a statement
 
@@ -349,8 +344,10 @@ delete_effect env line name seen now held later r is leaf levels ended same = ca
     hidden : (other : List ℕ) (t : Bool) → bytes_eq name other ≡ t → found_in held name ≡ None → cond t None (found_in held other) ≡ found_in held other
     hidden other true e at = sym (ap (found_in held) (sym (bytes_same name other e)) ∙ at)
     hidden other false e at = refl
+
     told : (q : Ref) → r ≡ q → now.events ≡ seen.events ++ deletes seen.caller (q ∷ [])
     told q e = ap (λ (s : Seen MatChunk MatKind). s.events) same ∙ (deleted_is seen r).told ∙ ap (λ q. seen.events ++ deletes seen.caller (q ∷ [])) e
+
     case : (o : Option Binding) → found_in held name ≡ o → EndsAs o held name r later → IsEffect env (Does line verb.Delete (name ∷ [])) seen held now later
     case None at (null, order, puts) =
         let fresh = finds_nothing (found_in held name) (newest (is_bound_as name) env) at (is.names name) in

@@ -1,14 +1,14 @@
 -- The identifiers of a caller as references come and go.
-use Rattle.std.proofs.Common.{◌≡◌, ℕ, Bool, true, false, cond, ◌⊎◌, inl, inr, List, [], ◌∷◌, ◌++◌, Option, Some, None, nat_eq, refl, sym, ap, ◌∙◌, subst}
-use Rattle.std.specs.Prelude.{IsSome, ◌==◌, if◌then◌else◌}
+use Rattle.std.proofs.Common.{◌≡◌, ℕ, Bool, true, false, cond, Option, Some, None, nat_eq, refl, sym, ap, ◌∙◌, subst}
+use Rattle.std.specs.Prelude.{IsSome}
 use Rattle.std.specs.FinMap as map
 use Rattle.std.specs.Ordering.{nat_cmp}
 use Rattle.cht_ids.specs.declared.refs.Ref.{Ref}
 use Rattle.cht_ids.specs.declared.refs.Id.{Id}
 use Rattle.cht_ids.specs.declared.refs.Ref.TheVariants.{Null, Id as Held}
-use Rattle.task_types.specs.Tree.{Tree, Nothing, Root}
+use Rattle.task_types.specs.Tree.{Tree}
 use Rattle.name_machine.specs.Parts.{Named}
-use Rattle.name_states.proofs.Basics.{same_or_not, test_same, same_from_test, none_not_some, get_inserted, get_removed, inserted_here, inserted_other, removed_here, removed_other, removed_from}
+use Rattle.name_states.proofs.Basics.{test_same, same_from_test, none_not_some, get_inserted, get_removed, inserted_here, inserted_other, removed_other, removed_from}
 use Rattle.task_states.proofs.Maps.{same_maps}
 use Rattle.cht_engine.specs.Seen.{of_owner}
 use Rattle.quad_matrix.specs.declared.chunk.MatChunk.{MatChunk}

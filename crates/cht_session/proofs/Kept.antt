@@ -6,7 +6,7 @@ use Rattle.cht_engine.specs.Seen.{of_owner}
 use Rattle.std.specs.FinMap as map
 use Rattle.std.specs.Str.{bytes_eq}
 use Rattle.std.proofs.lemmas.Bool.{cases_Bool}
-use Rattle.name_states.proofs.Basics.{none_not_some, same_some, get_removed, removed_here}
+use Rattle.name_states.proofs.Basics.{same_some, get_removed, removed_here}
 use Rattle.cht_ids.specs.declared.refs.Id.{Id}
 use Rattle.cht_ids.specs.declared.refs.Ref.{Ref}
 use Rattle.cht_ids.specs.declared.refs.Ref.TheVariants.{Null, Id as HeldId}
@@ -20,7 +20,7 @@ use Rattle.cht_session.specs.Held.{Names, IsNameOf, without, AreKept, AreAll}
 use Rattle.cht_session.specs.Given.{IsGiven}
 use Rattle.cht_session.proofs.Identifiers.{named_given, given_without, given_here, named_before, named_apart, named_after, without_both, named_is_held}
 use Rattle.cht_session.proofs.Bindings.{bytes_same, bytes_back, newest_behind, newest_first, none_first, left_all, newest_left}
-use Rattle.cht_session.proofs.Order.{strike, strike_ref, struck_here, struck_later}
+use Rattle.cht_session.proofs.Order.{strike_ref, struck_here, struck_later}
 
 module _ (b h : ℕ) where
   -- the tree of a name
@@ -101,15 +101,16 @@ module _ (b h : ℕ) where
             (subst (λ (x : Bound). AreKept b h (without names x.at) env) first.2 kept.2)
         | inr behind ↦
             let found = kept_found (without names y.at) env name x kept.2 behind.1 in
-            subst (AreKept b h (without names x.at)) (sym (kept_first y env name behind.0))
-            (named_after names (tree_of_bound x) (tree_of_bound y) x.at y.at kept.0 found,
-            none_left y env name kept.1,
-            subst (λ n. AreKept b h n (left_without name env)) (without_both names y.at x.at) (kept_less (without names y.at) env name x kept.2 behind.1))
+            subst (AreKept b h (without names x.at)) (sym (kept_first y env name behind.0)) (
+              named_after names (tree_of_bound x) (tree_of_bound y) x.at y.at kept.0 found,
+              none_left y env name kept.1,
+              subst (λ n. AreKept b h n (left_without name env)) (without_both names y.at x.at) (kept_less (without names y.at) env name x kept.2 behind.1),
+            )
       ]
 
   -- the identifiers of the names but one
   struck_behind : (names : Names) (other tree : Tree MatChunk) (r s : Ref) (ids : List Id) → IsNameOf (without names s) tree r
-      → strike_ref r (identifiers (s ∷ [])  ++ ids) ≡ identifiers (s ∷ []) ++ strike_ref r ids
+      → strike_ref r (identifiers (s ∷ []) ++ ids) ≡ identifiers (s ∷ []) ++ strike_ref r ids
   struck_behind names other tree Null s ids is = refl
   struck_behind names other tree (HeldId id) Null ids is = refl
   struck_behind names other tree (HeldId id) (HeldId k) ids is = struck_later k id ids (λ same. named_apart names tree id k is (sym same))

@@ -17,3 +17,6 @@ pub mod Effects
 pub mod Doing
 pub mod CompletedCells
 pub mod Writing
+pub mod Agreeing
+pub mod Underway
+pub mod Turning

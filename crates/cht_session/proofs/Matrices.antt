@@ -1,9 +1,9 @@
 -- The trees and works of matrices that statements make of others.
-use Rattle.std.proofs.Common.{◌≡◌, ℕ, ◌+◌, ◌*◌, ◌^◌, ◌≤◌, ◌<◌, Bool, true, false, not, cond, None, Some, Option, List, [], ◌∷◌, ◌+ℤ◌, ℤ, pos, refl, sym, ap, ap₂, ◌∙◌, subst, subst₂, arith, inl, inr}
+use Rattle.std.proofs.Common.{◌≡◌, ℕ, ◌+◌, ◌*◌, ◌^◌, ◌≤◌, Bool, true, false, not, cond, Some, [], ◌∷◌, ◌+ℤ◌, ℤ, refl, sym, ap, ap₂, ◌∙◌, subst, arith, inl, inr}
 use Rattle.std.specs.Prelude.{IsTrue, nat_le, ◌↔◌, ◌&&◌, ◌==◌, unsigned_abs}
 use Rattle.std.proofs.lemmas.Bool.{cases_lt, le-leb, lt-leb, leb-true, eqb-true, false≢true, eq-eqb, ne_eqb}
-use Rattle.dense_def.specs.Matrix.{Matrix, height, entry, IsMatrix, made, plus, times, tmul_of, mult_of, trace_of, peak_of, TraceFits, completed}
-use Rattle.dense_def.proofs.Entries.{height-made, IsMatrix-made}
+use Rattle.dense_def.specs.Matrix.{Matrix, height, entry, IsMatrix, plus, trace_of, peak_of, TraceFits, completed}
+use Rattle.dense_def.proofs.Entries.{IsMatrix-made}
 use Rattle.dense_def.proofs.Operations.{height-plus, height-times, height-tmul_of, height-mult_of}
 use Rattle.dense_def.proofs.Peaks.{sum_fits, trace_fits}
 use Rattle.task_types.specs.Tree.{Tree, Nothing, Root, is_there}
@@ -11,15 +11,14 @@ use Rattle.chunk_codec.specs.Spots.{side_of}
 use Rattle.quad_matrix.specs.declared.chunk.MatChunk.{MatChunk}
 use Rattle.quad_matrix.specs.declared.chunk.MatChunk.TheVariants as chunk
 use Rattle.quad_matrix.specs.declared.chunk.Entries.{Entries}
-use Rattle.quad_matrix.specs.declared.kind.What.{What}
 use Rattle.quad_matrix.specs.declared.kind.What.TheVariants.{Assign, Add, Trace}
-use Rattle.quad_matrix.specs.Spots.{block_of_spots, block_listed, AreSoundEntries}
-use Rattle.quad_matrix.specs.Blocks.{block_of, number_of, canonical, number_tree, alone, IsCanonical}
+use Rattle.quad_matrix.specs.Spots.{block_of_spots, block_listed}
+use Rattle.quad_matrix.specs.Blocks.{block_of, canonical, number_tree, alone, IsCanonical}
 use Rattle.quad_matrix.specs.Goals.{kind_of, goal_at, goal_of, FitsAt}
 use Rattle.quad_matrix.specs.Works.{assign_work, work_of}
 use Rattle.quad_matrix.specs.Products.{Neither, First, Second}
-use Rattle.quad_matrix.proofs.ForOthers.{canonical_zero, block_of_canonical, nothing_is_canonical, is_there_canonical, add_canonical, number_of_tree, spots_whole, spots_tall, sound_some, assign_canonical, goal_any, product_fits_by_peaks, product_goal_stands, peak_of_root, peak-zeros}
-use Rattle.cht_script.specs.Statements.{general, shapes_fit, is_square}
+use Rattle.quad_matrix.proofs.ForOthers.{block_of_canonical, nothing_is_canonical, is_there_canonical, add_canonical, spots_whole, spots_tall, sound_some, assign_canonical, goal_any, product_fits_by_peaks, product_goal_stands, peak_of_root, peak-zeros}
+use Rattle.cht_script.specs.Statements.{general, shapes_fit}
 use Rattle.cht_script.specs.Meaning.{limit, is_bounded, matrix_given}
 use Rattle.cht_session.specs.declared.operation.Operation.{Operation}
 use Rattle.cht_session.specs.declared.operation.Operation.TheVariants as op
@@ -106,9 +105,12 @@ module _ (b h : ℕ) where
     combined_fits op.Add shapes fits =
         let cx = x.tree.canonical in
         let cy = y.tree.canonical in
-        let le = leb-true (peak_of m + peak_of n) (2 ^ 126) fits in
-        (cx, cy, sum_fits (block_of b h s) (block_of b h t) (cx.sized.tall ∙ sym cy.sized.tall) (cx.sized.wide ∙ sym cy.sized.wide)
-        (rw (ap peak_of x.tree.block ∙ completed_peak m x, ap peak_of y.tree.block ∙ completed_peak n y) le))
+        let le = leb-true (peak_of m + peak_of n) (2 ^ 126) fits in (
+          cx,
+          cy,
+          sum_fits (block_of b h s) (block_of b h t) (cx.sized.tall ∙ sym cy.sized.tall) (cx.sized.wide ∙ sym cy.sized.wide)
+              (rw (ap peak_of x.tree.block ∙ completed_peak m x, ap peak_of y.tree.block ∙ completed_peak n y) le),
+        )
     combined_fits op.Mul shapes fits =
         product_fits_by_peaks b h Neither s t m n x.tree.canonical y.tree.canonical x.tree.block y.tree.block x.whole y.whole
         (same_size m.columns (height n) shapes) x.columns (leb-true (m.columns * peak_of m * peak_of n) (2 ^ 126) fits)

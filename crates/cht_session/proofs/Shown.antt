@@ -1,6 +1,6 @@
 -- What is held, against the names that are bound, as one is bound or ended.
-use Rattle.std.proofs.Common.{◌≡◌, ℕ, ◌+◌, ◌≤◌, Bool, true, false, cond, List, [], ◌∷◌, ◌++◌, Option, Some, None, refl, sym, ap, ap₂, ◌∙◌, subst, subst₂, append-nil}
-use Rattle.std.specs.Prelude.{IfSome, option_map, Result, Ok, Err, slice_get, slice_set}
+use Rattle.std.proofs.Common.{◌≡◌, ℕ, Bool, true, false, cond, List, [], ◌∷◌, ◌++◌, Option, Some, None, refl, sym, ap, ap₂, ◌∙◌, subst, subst₂}
+use Rattle.std.specs.Prelude.{IfSome, option_map, slice_get, slice_set}
 use Rattle.std.specs.FinMap as map
 use Rattle.std.specs.Str.{bytes_eq}
 use Rattle.dense_def.specs.Matrix.{Matrix, height}
@@ -13,19 +13,19 @@ use Rattle.quad_matrix.specs.declared.kind.MatKind.{MatKind}
 use Rattle.mm_text.specs.declared.market.Form.TheVariants.{General}
 use Rattle.cht_script.specs.declared.checked.Shape.{Shape}
 use Rattle.cht_script.specs.Newest.{newest}
-use Rattle.cht_script.specs.Meaning.{Known, matrix_named, form_named, matrix_found, form_found, named_matrix}
+use Rattle.cht_script.specs.Meaning.{matrix_named, form_named, matrix_found, form_found, named_matrix}
 use Rattle.cht_script.specs.Statements.{general}
 use Rattle.cht_script.proofs.Newest.{newest-push}
 use Rattle.cht_session.specs.declared.held.Binding.{Binding}
 use Rattle.cht_session.specs.declared.held.Held.{Held}
-use Rattle.cht_session.specs.Bindings.{found_in, shape_found, shape_at, IsOrdered, IsSameHeld, Puts, IsAdded, EndsAs, IsEnded}
+use Rattle.cht_session.specs.Bindings.{found_in, shape_found, shape_at, IsSameHeld, Puts, IsAdded}
 use Rattle.cht_session.specs.Program.{Bound, known_in, is_bound_as, left_without, references, identifiers, reference_named, reference_found, with_reference}
 use Rattle.cht_session.specs.Works.{tree_of}
-use Rattle.cht_session.specs.Held.{Names, IsOf, Finds, IsNameOf, without, AreKept, AreAll, IsSoundMatrix, IsSoundBound, IsShown, IsLeft}
+use Rattle.cht_session.specs.Held.{Finds, IsNameOf, without, AreKept, AreAll, IsSoundMatrix, IsSoundBound, IsShown, IsLeft}
 use Rattle.cht_session.specs.Given.{IsGiven, IsUndone}
 use Rattle.cht_session.specs.Running.{IsGoing}
 use Rattle.cht_session.proofs.Asked.{named_mentioned, named_seen}
-use Rattle.cht_session.proofs.Bindings.{bytes_self, bytes_same, known_newest, newest_left, finds_case, finds_none, finds_some, finds_nothing}
+use Rattle.cht_session.proofs.Bindings.{known_newest, newest_left, finds_case, finds_none, finds_some, finds_nothing}
 use Rattle.cht_session.proofs.Order.{identifiers_append, references_append, strike_ref, ordered_added, ordered_ended}
 use Rattle.cht_session.proofs.Kept.{kept_more, kept_found, kept_less, kept_all, struck_env, struck_order}
 

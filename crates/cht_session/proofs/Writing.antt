@@ -1,14 +1,11 @@
 -- The statements that write a text.
-use Rattle.std.proofs.Common.{◌≡◌, ℕ, ◌+◌, ◌*◌, ◌^◌, ◌≤◌, Bool, true, false, not, List, [], ◌∷◌, ◌++◌, length, Option, Some, None, pos, ℤ, refl, sym, ap, ap₂, ◌∙◌, subst, subst₂, append-nil, arith}
+use Rattle.std.proofs.Common.{◌≡◌, ℕ, ◌+◌, ◌*◌, ◌^◌, ◌≤◌, Bool, true, false, not, List, [], ◌∷◌, ◌++◌, length, Option, Some, pos, ℤ, refl, sym, ap, ap₂, ◌∙◌, subst, append-nil}
 use Rattle.std.specs.Prelude.{Result, Ok, Err, IsTrue, ◌↔◌, ◌==◌, nat_le, unsigned_abs}
-use Rattle.std.specs.FinMap as map
 use Rattle.std.proofs.lemmas.Bool.{eqb-true}
 use Rattle.cht_io.specs.Bytes.{Adds, AddsFront}
 use Rattle.cht_ids.specs.Numeral.{number_text}
 use Rattle.dense_def.specs.Matrix.{Matrix, height, trace_of, peak_of}
-use Rattle.cht_ids.specs.declared.refs.Ref.{Ref}
 use Rattle.cht_ids.specs.declared.refs.Ref.TheVariants.{Null}
-use Rattle.cht_history.specs.declared.event.Event.{Event}
 use Rattle.cht_history.specs.declared.event.Event.TheVariants.{Ask, Collect}
 use Rattle.cht_engine.specs.Seen.{Seen, MayMention, tree_named}
 use Rattle.cht_engine.specs.Calls.{IsOutput}
@@ -21,14 +18,13 @@ use Rattle.quad_matrix.specs.Goals.{kind_of, goal_of, IsDefined}
 use Rattle.quad_matrix.specs.Works.{work_of}
 use Rattle.quad_matrix.proofs.ForOthers.{number_of_tree}
 use Rattle.mm_text.specs.declared.market.Cell.{Cell}
-use Rattle.mm_text.specs.declared.market.Form.{Form}
 use Rattle.mm_text.specs.declared.market.Form.TheVariants.{General}
 use Rattle.mm_text.specs.Cells.{cells_of, cells_listed}
 use Rattle.mm_text.specs.Written.{matrix_text, text_of_cells}
 use Rattle.cht_script.specs.declared.script.Names.{Names}
 use Rattle.cht_script.specs.declared.script.Verb.TheVariants as verb
-use Rattle.cht_script.specs.Statements.{is_square, general}
-use Rattle.cht_script.specs.Meaning.{limit, Known, Deed, Acts as Does, matrix_named, form_named, is_refused, text_by}
+use Rattle.cht_script.specs.Statements.{is_square}
+use Rattle.cht_script.specs.Meaning.{limit, Deed, Acts as Does, matrix_named, is_refused, text_by}
 use Rattle.cht_script.specs.Reading.{name_bytes, names_of}
 use Rattle.cht_session.specs.declared.held.Binding.{Binding}
 use Rattle.cht_session.specs.declared.held.Held.{Held}
@@ -37,11 +33,10 @@ use Rattle.cht_session.specs.declared.stop.Stop.TheVariants as stops
 use Rattle.cht_session.specs.Numbers.{root_peak}
 use Rattle.cht_session.specs.BlockTrees.{IsBlockTree, AreEntriesOf}
 use Rattle.cht_session.specs.Bindings.{found_in, shape_at}
-use Rattle.cht_session.specs.Program.{Bound, known_in, reference_named, deletes, IsNullIf, AreOfDeed, AreOfTrace}
-use Rattle.cht_session.specs.Works.{tree_of, work_by}
-use Rattle.cht_session.specs.Held.{IsShown, IsWell}
+use Rattle.cht_session.specs.Program.{Bound, known_in, deletes, IsNullIf, AreOfTrace}
+use Rattle.cht_session.specs.Held.{IsShown}
 use Rattle.cht_session.specs.Given.{IsTraced}
-use Rattle.cht_session.specs.Running.{IsEffect, IsGoing, IsWritten, Acts}
+use Rattle.cht_session.specs.Running.{IsEffect, IsWritten, Acts}
 use Rattle.cht_session.proofs.Assigned.{output_null}
 use Rattle.cht_session.proofs.CompletedCells.{cells_completed}
 use Rattle.cht_session.proofs.Matrices.{tree_peak, trace_tested, trace_fitting, trace_goal, number_null}

@@ -8,7 +8,6 @@ use Rattle.cht_ids.specs.declared.refs.Ref.TheVariants.{Null, Id as Held}
 use Rattle.cht_history.specs.declared.event.Event.{Event}
 use Rattle.cht_history.specs.declared.event.Event.TheVariants.{Register, Copy as CopyEvent, Delete as DeleteEvent, Ask, Collect}
 use Rattle.quad_matrix.specs.declared.kind.MatKind.{MatKind}
-use Rattle.quad_matrix.specs.declared.kind.What.{What}
 use Rattle.quad_matrix.specs.declared.kind.What.TheVariants as what
 use Rattle.quad_matrix.specs.Goals.{kind_of}
 use Rattle.mm_text.specs.declared.market.Form.{Form}

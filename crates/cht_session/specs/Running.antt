@@ -1,5 +1,5 @@
 -- What the statements of a script do, one after another, to the sink, to what is held and to what the caller of the engine sees.
-use Rattle.std.specs.Prelude.{◌≡◌, ℕ, ◌+◌, Bool, true, false, List, [], ◌∷◌, ◌++◌, map, Option, None, Some, Result, Ok, Err}
+use Rattle.std.specs.Prelude.{◌≡◌, ℕ, ◌+◌, Bool, true, false, List, [], ◌++◌, Option, None, Some, Result, Ok, Err}
 use Rattle.std.specs.FinMap as maps
 use Rattle.cht_io.specs.Bytes.{Adds, AddsFront}
 use Rattle.dense_def.specs.Matrix.{Matrix, height}
@@ -9,7 +9,6 @@ use Rattle.cht_engine.specs.Seen.{Seen}
 use Rattle.quad_matrix.specs.declared.chunk.MatChunk.{MatChunk}
 use Rattle.quad_matrix.specs.declared.kind.MatKind.{MatKind}
 use Rattle.mm_text.specs.declared.market.Form.TheVariants.{General}
-use Rattle.cht_script.specs.declared.checked.Step.{Step}
 use Rattle.cht_script.specs.declared.checked.Shape.{Shape}
 use Rattle.cht_script.specs.declared.script.Fault.{Fault}
 use Rattle.cht_script.specs.declared.script.Names.{Names}
@@ -19,9 +18,8 @@ use Rattle.cht_script.specs.declared.script.Verb.{Verb}
 use Rattle.cht_script.specs.declared.script.Verb.TheVariants.{Copy, Add, Mul, TMul, MulT, Square, Full, Trace, Count, Print, Delete}
 use Rattle.cht_script.specs.Statements.{names_after, shapes_fit, is_square}
 use Rattle.cht_script.specs.Verdict.{NamedShape, is_known, shape_in, is_among}
-use Rattle.cht_script.specs.Meaning.{Known, matrix_named, Deed, is_refused, known_by, text_by, Told, after_text, told_by}
+use Rattle.cht_script.specs.Meaning.{Known, matrix_named, Deed, is_refused, text_by, Told}
 use Rattle.cht_script.specs.Reading.{name_bytes, IsGoodMarket}
-use Rattle.cht_script.specs.Checking.{deed_in}
 use Rattle.cht_session.specs.declared.ended.Ended.{Ended}
 use Rattle.cht_session.specs.declared.ended.Ended.TheVariants.{Done, Refused, WriteFault, Memory}
 use Rattle.cht_session.specs.declared.stop.Stop as stop

@@ -1,4 +1,4 @@
-use Rattle.std.proofs.Common.{◌≡◌, None, Some, Ok, refl, sym, subst, ap, ◌∙◌}
+use Rattle.std.proofs.Common.{◌≡◌, None, Some, Ok, sym, subst, ap}
 use Rattle.cht_session.specs.Bindings.{found_in, IsAdded}
 use Rattle.cht_session.specs.Given.{Combines, IsReadyPair}
 use Rattle.cht_session.proofs.Asked.{nothing_done}

@@ -1,8 +1,7 @@
-use Rattle.std.proofs.Common.{◌≡◌, None, refl, subst, subst₂, ap, ◌∙◌}
+use Rattle.std.proofs.Common.{◌≡◌, None, refl, subst, subst₂}
 use Rattle.cht_script.specs.Reading.{name_bytes, matrix_of_market}
 use Rattle.cht_session.specs.Listed.{IsListOf}
 use Rattle.cht_session.specs.Bindings.{found_in, IsAdded}
-use Rattle.cht_session.specs.Given.{AssignsAny}
 use Rattle.cht_session.proofs.Effects.{effect_going}
 use Rattle.cht_session.proofs.Doing.{undone, still, not_assigned, market_done, market_left}
 use Rattle.cht_session.proofs.statements.market.Goals as goal

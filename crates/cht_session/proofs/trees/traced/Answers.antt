@@ -1,8 +1,8 @@
-use Rattle.std.proofs.Common.{[], ◌∷◌, subst, sym, ap}
+use Rattle.std.proofs.Common.{[], ◌∷◌, subst, sym}
 use Rattle.quad_matrix.specs.declared.kind.What.TheVariants.{Trace}
 use Rattle.quad_matrix.specs.Goals.{kind_of, goal_of}
 use Rattle.cht_engine.specs.Seen.{MayMention, tree_named}
-use Rattle.cht_session.proofs.Asked.{asked_answered, asked_undone, given_mentioned, traced_done}
+use Rattle.cht_session.proofs.Asked.{asked_answered, given_mentioned, traced_done}
 use Rattle.cht_session.proofs.trees.traced.Goals as goal
 
 pub number_at-number-requires : goal.number_at-number-requires
