@@ -16,3 +16,7 @@ pub mod Writing
 pub mod Agreeing
 pub mod Underway
 pub mod Turning
+pub mod BesideRows
+pub mod CellRows
+pub mod SquareJoins
+pub mod TreePieces

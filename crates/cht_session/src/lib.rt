@@ -1,9 +1,13 @@
-//! Scripts on an engine: what the tasks on matrices are, and how the statements of a script become calls of the engine.
+//! Scripts on an engine: what the tasks on matrices are, how the statements of a script become calls of the engine, and what is read of the
+//! trees that a caller holds.
 #![tactic(auto)]
 
+mod beside;
+mod corner;
 mod ended;
 mod entries;
 mod held;
+mod leaf_cells;
 mod library;
 mod listed;
 mod operation;
