@@ -9,7 +9,6 @@ use Rattle.cht_ids.specs.declared.refs.Ref.TheVariants.{Null}
 use Rattle.cht_history.specs.declared.event.Event.TheVariants.{Ask, Collect}
 use Rattle.cht_engine.specs.Seen.{Seen, MayMention, tree_named}
 use Rattle.cht_engine.specs.Calls.{IsOutput}
-use Rattle.chunk_codec.specs.Spots.{side_of}
 use Rattle.quad_matrix.specs.declared.chunk.MatChunk.{MatChunk}
 use Rattle.quad_matrix.specs.declared.kind.MatKind.{MatKind}
 use Rattle.quad_matrix.specs.declared.kind.What.TheVariants as what

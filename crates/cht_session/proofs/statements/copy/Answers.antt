@@ -1,4 +1,4 @@
-use Rattle.std.proofs.Common.{◌≡◌, None, Some, refl, sym, subst}
+use Rattle.std.proofs.Common.{◌≡◌, None, refl, sym, subst}
 use Rattle.cht_session.specs.Bindings.{found_in, IsAdded}
 use Rattle.cht_session.proofs.Effects.{effect_going}
 use Rattle.cht_session.proofs.Bindings.{found_as}

@@ -1,5 +1,4 @@
-use Rattle.std.proofs.Common.{◌≡◌, Some, refl, sym, subst}
-use Rattle.cht_session.specs.Bindings.{found_in}
+use Rattle.std.proofs.Common.{refl, sym}
 use Rattle.cht_session.proofs.Doing.{stays_still}
 use Rattle.cht_session.proofs.Bindings.{found_as}
 use Rattle.cht_session.proofs.Writing.{name_mentioned, name_block, print_stated}

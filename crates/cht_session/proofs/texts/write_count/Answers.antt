@@ -1,7 +1,6 @@
-use Rattle.std.proofs.Common.{rules, ◌≡◌, Some, true, pos, length, [], ◌∷◌, ◌++◌, refl, sym, subst}
+use Rattle.std.proofs.Common.{rules, true, pos, length, [], ◌∷◌, ◌++◌, refl, sym}
 use Rattle.cht_ids.specs.Numeral.{number_text}
 use Rattle.cht_session.specs.Running.{IsWritten}
-use Rattle.cht_session.specs.Bindings.{found_in}
 use Rattle.cht_session.proofs.Doing.{stays_still}
 use Rattle.cht_session.proofs.Bindings.{found_as}
 use Rattle.cht_session.proofs.Writing.{name_mentioned, name_block, count_stated}

@@ -1,10 +1,9 @@
-use Rattle.std.proofs.Common.{rules, ◌≡◌, Some, true, [], ◌∷◌, ◌++◌, refl, sym, subst, FitsSigned}
+use Rattle.std.proofs.Common.{rules, true, [], ◌∷◌, ◌++◌, refl, sym, subst, FitsSigned}
 use Rattle.std.specs.Int.{w128}
 use Rattle.std.proofs.lemmas.Int.{to_z-of_z}
 use Rattle.cht_engine.specs.Seen.{MayMention, tree_named}
 use Rattle.quad_matrix.specs.declared.kind.What.TheVariants.{Trace}
 use Rattle.quad_matrix.specs.Goals.{kind_of, IsDefined}
-use Rattle.cht_session.specs.Bindings.{found_in}
 use Rattle.cht_ids.specs.Numeral.{number_text}
 use Rattle.cht_session.specs.Running.{IsWritten}
 use Rattle.cht_session.specs.Given.{IsTraced, IsUndone}
