@@ -1,8 +1,4 @@
-pub mod BesideRows
-pub mod CellRows
 pub mod Served
-pub mod SquareJoins
-pub mod TreePieces
 pub mod ListedEntries
 pub mod Identifiers
 pub mod Bindings
@@ -15,8 +11,11 @@ pub mod Matrices
 pub mod Shown
 pub mod Effects
 pub mod Doing
-pub mod CompletedCells
 pub mod Writing
 pub mod Agreeing
 pub mod Underway
 pub mod Turning
+pub mod BesideRows
+pub mod CellRows
+pub mod SquareJoins
+pub mod TreePieces

@@ -1,5 +1,3 @@
-pub mod BlockTrees
-pub mod SquareCells
 pub mod Program
 pub mod Works
 pub mod Listed
@@ -9,3 +7,5 @@ pub mod Held
 pub mod Given
 pub mod Running
 pub mod Numbers
+pub mod BlockTrees
+pub mod SquareCells

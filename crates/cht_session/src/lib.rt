@@ -1,5 +1,5 @@
-//! Scripts on an engine: what the tasks on matrices are, how the statements of a script become calls of the engine, and how a matrix is
-//! read out of it.
+//! Scripts on an engine: what the tasks on matrices are, how the statements of a script become calls of the engine, and what is read of the
+//! trees that a caller holds.
 #![tactic(auto)]
 
 mod beside;
