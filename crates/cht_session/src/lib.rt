@@ -11,7 +11,6 @@ mod leaf_cells;
 mod library;
 mod listed;
 mod operation;
-mod plain;
 mod run;
 mod statements;
 mod stop;

@@ -1,18 +1,29 @@
-ghost use Rattle.std.specs.Prelude.{◌≡◌, ◌≤◌, [], None, map};
+ghost use Rattle.std.specs.Prelude.{◌≡◌, ℕ, ◌≤◌, List, [], None, Err, map};
 ghost use Rattle.std.specs.FinMap as maps;
 ghost use Rattle.cht_io.specs.Faults.{Rose};
 ghost use Rattle.chunk_codec.specs.Spots.{side_of};
-ghost use Rattle.cht_script.specs.Meaning.{told_by};
+ghost use Rattle.cht_script.specs.Statements.{names_after};
+ghost use Rattle.cht_script.specs.Meaning.{told_by, Acts as Does};
+ghost use Rattle.cht_script.specs.Reading.{deed_of, names_of};
 ghost use Rattle.cht_script.specs.Checking.{AreSteps, deed_in};
 ghost use Rattle.cht_script.specs.NotRun.{not_run_in};
 ghost use Rattle.cht_session.specs.Listed.{most_listed};
-ghost use Rattle.cht_session.specs.Running.{Ran, HasRun};
+ghost use Rattle.cht_session.specs.Program.{identifiers};
+ghost use Rattle.cht_session.specs.Bindings.{found_in};
+ghost use Rattle.cht_session.specs.Held.{IsWell, IsLeft, AreAll};
+ghost use Rattle.cht_session.specs.Running.{IsReadyAct, IsReady, ActsOn, IsGoing, Ran, Stops, HasRun, HasRunTo, IsEmptied};
 
 use crate::ended::Ended;
+use crate::held::Held;
 use crate::library::MatLib;
+use crate::operation::Operation;
+use crate::statements::{combine, copy, delete, market};
+use crate::stop::Stop;
+use crate::texts::{print, write_count, write_trace};
 use cht_engine::Engine;
+use cht_ids::Ref;
 use cht_io::Sink;
-use cht_script::Checked;
+use cht_script::{Checked, Fault, Names, Statement, Verb};
 use std::alloc::Global;
 
 /// Runs the statements of a script, in order, up to the first that is refused. Whatever ends the run, the caller of the engine then holds
