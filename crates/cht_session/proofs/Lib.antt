@@ -1,4 +1,8 @@
+pub mod BesideRows
+pub mod CellRows
 pub mod Served
+pub mod SquareJoins
+pub mod TreePieces
 pub mod ListedEntries
 pub mod Identifiers
 pub mod Bindings
@@ -15,7 +19,3 @@ pub mod Writing
 pub mod Agreeing
 pub mod Underway
 pub mod Turning
-pub mod BesideRows
-pub mod CellRows
-pub mod SquareJoins
-pub mod TreePieces

@@ -1,3 +1,5 @@
+pub mod BlockTrees
+pub mod SquareCells
 pub mod Program
 pub mod Works
 pub mod Listed
@@ -7,5 +9,3 @@ pub mod Held
 pub mod Given
 pub mod Running
 pub mod Numbers
-pub mod BlockTrees
-pub mod SquareCells

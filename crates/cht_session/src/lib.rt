@@ -11,6 +11,7 @@ mod leaf_cells;
 mod library;
 mod listed;
 mod operation;
+mod plain;
 mod run;
 mod statements;
 mod stop;

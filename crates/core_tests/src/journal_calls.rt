@@ -7,7 +7,8 @@ use std::alloc::Global;
 use std::test::Fail;
 
 // One sum of two numbers, from the first number to the last identifier.
-const SUM: &[u8] = b"cht journal 1\nregister 0 0:2\ncopy 0 0:2 0:3\nask 0 4 addnum 0 0:2 0:3\nstart 1 4\ngive_back 1 4\nstart 2 4\ndelete 0 0:2\ndelete 0 0:3\nfinish 2 4 1 0 k0\nchunk\ncollect 0 4 2:7\ndelete 0 2:7\nend 11\n";
+const SUM: &[u8] =
+    b"cht journal 1\nregister 0 0:2\ncopy 0 0:2 0:3\nask 0 4 addnum 0 0:2 0:3\nstart 1 4\ngive_back 1 4\nstart 2 4\ndelete 0 0:2\ndelete 0 0:3\nfinish 2 4 1 0 k0\nchunk\ncollect 0 4 2:7\ndelete 0 2:7\nend 11\n";
 
 // Texts that are no journal's, each with the line that is named.
 const WRONG: [(&[u8], u64); 12] = [
@@ -22,7 +23,10 @@ const WRONG: [(&[u8], u64); 12] = [
     (b"cht journal 1\nask 0 4 addnum 17 0:2\nend 1\n", 2),
     (b"cht journal 1\nask 0 4 nothing 0 0:2\nend 1\n", 2),
     (b"cht journal 1\nfinish 0 4 1 0 k0\nend 1\n", 3),
-    (b"cht journal 1\nfinish 0 4 0 1 t0\ntask addnum 0 i0 i1\nend 2\n", 4),
+    (
+        b"cht journal 1\nfinish 0 4 0 1 t0\ntask addnum 0 i0 i1\nend 2\n",
+        4,
+    ),
 ];
 
 // The line that is named where bytes are no journal's text.

@@ -9,7 +9,7 @@ pub use Rattle.quad_matrix.proofs.Quadrants.{child_canonical, quadrants_canonica
 pub use Rattle.quad_matrix.proofs.Numbers.{number_some, number_of_tree, nothing_is_number, root_of_number}
 pub use Rattle.quad_matrix.proofs.OnlyTrees.{canonical_stands, canonical_is_only, number_is_only}
 -- goals: canonical, the same at each side of the leaves, and by children
-pub use Rattle.quad_matrix.proofs.Lists.{spots_whole, spots_tall, sound_some, assign_canonical, goal_is_canonical}
+pub use Rattle.quad_matrix.proofs.Lists.{spots_whole, spots_tall, assign_canonical, goal_is_canonical}
 pub use Rattle.quad_matrix.proofs.AnySide.{goal_any, assign_nothing, join_goal_nothing}
 pub use Rattle.quad_matrix.proofs.Sums.{add_canonical, fits_join, join_goal, join_fits, child_sum, add_on_children, add_is_join, add_with_nothing, add_nothing_with, add_nothing}
 pub use Rattle.quad_matrix.proofs.Numbers.{trace_first, trace_last, trace_fits, trace_on_children, trace_of_nothing, addnum_with_nothing, addnum_nothing_with, addnum_is_number}
