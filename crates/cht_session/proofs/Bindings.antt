@@ -151,7 +151,3 @@ ended_none held later name found order puts = subst (λ o. EndsAs o held name Nu
 pub ended_some : (held later : Held) (name : List ℕ) (one : Binding) → found_in held name ≡ Some one
     → later.order.items ≡ slice_set held.order.items one.number Null → Puts held name None later → IsEnded held name one.at later
 ended_some held later name one found order puts = subst (λ o. EndsAs o held name one.at later) (sym found) (refl, order, puts)
-
--- what was found by some bytes is found by the name that they are
-pub found_as : (held : Held) (bytes name : List ℕ) (one : Binding) → bytes ≡ name → Some one ≡ found_in held bytes → found_in held name ≡ Some one
-found_as held bytes name one same found = ap (found_in held) (sym same) ∙ sym found

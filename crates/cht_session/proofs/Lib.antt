@@ -15,6 +15,7 @@ pub mod Matrices
 pub mod Shown
 pub mod Effects
 pub mod Doing
+pub mod CompletedCells
 pub mod Writing
 pub mod Agreeing
 pub mod Underway

@@ -9,6 +9,7 @@ use Rattle.cht_ids.specs.declared.refs.Ref.TheVariants.{Null}
 use Rattle.cht_history.specs.declared.event.Event.TheVariants.{Ask, Collect}
 use Rattle.cht_engine.specs.Seen.{Seen, MayMention, tree_named}
 use Rattle.cht_engine.specs.Calls.{IsOutput}
+use Rattle.chunk_codec.specs.Spots.{side_of}
 use Rattle.quad_matrix.specs.declared.chunk.MatChunk.{MatChunk}
 use Rattle.quad_matrix.specs.declared.kind.MatKind.{MatKind}
 use Rattle.quad_matrix.specs.declared.kind.What.TheVariants as what
@@ -33,12 +34,11 @@ use Rattle.cht_session.specs.Numbers.{root_peak}
 use Rattle.cht_session.specs.BlockTrees.{IsBlockTree, AreEntriesOf}
 use Rattle.cht_session.specs.Bindings.{found_in, shape_at}
 use Rattle.cht_session.specs.Program.{Bound, known_in, deletes, IsNullIf, AreOfTrace}
-use Rattle.cht_session.specs.Works.{tree_of}
 use Rattle.cht_session.specs.Held.{IsShown}
 use Rattle.cht_session.specs.Given.{IsTraced}
 use Rattle.cht_session.specs.Running.{IsEffect, IsWritten, Acts}
 use Rattle.cht_session.proofs.Assigned.{output_null}
-use Rattle.cht_session.proofs.TreePieces.{entries_of_matrix}
+use Rattle.cht_session.proofs.CompletedCells.{cells_completed}
 use Rattle.cht_session.proofs.Matrices.{tree_peak, trace_tested, trace_fitting, trace_goal, number_null}
 use Rattle.cht_session.proofs.Shown.{shown_seen, is_found}
 use Rattle.cht_session.proofs.Effects.{one_name, plus_none}
@@ -75,8 +75,8 @@ module _ (seen now : Seen MatChunk MatKind) (held : Held) (env : List Bound) (na
   name_cells cells entries =
       let f = is_found seen held env name one is found in
       let m = matrix_named (known_in env) name in
-      entries_of_matrix held.leaf held.height (tree_of held.leaf held.height m) m cells (subst (λ t. AreEntriesOf t cells) f.tree entries) f.sound.tree.canonical
-      f.sound.whole f.sound.rows f.sound.columns f.sound.tree.block
+      subst (λ t. AreEntriesOf t cells) f.tree entries held.leaf held.height f.sound.tree.canonical
+      ∙ ap cells_of f.sound.tree.block ∙ cells_completed (side_of held.leaf held.height) m f.sound.whole f.sound.rows f.sound.columns
 
   -- a statement without events
   silent : (line : ℕ) → now ≡ seen → IsEffect env (Does line verb.Count (name ∷ [])) seen held now held

@@ -3,7 +3,6 @@ use Rattle.cht_session.specs.Bindings.{found_in, IsAdded}
 use Rattle.cht_session.specs.Given.{Combines, IsReadyPair}
 use Rattle.cht_session.proofs.Asked.{nothing_done}
 use Rattle.cht_session.proofs.Effects.{effect_going}
-use Rattle.cht_session.proofs.Bindings.{found_as}
 use Rattle.cht_session.proofs.Doing.{undone, still, copy_ready, combine_ready, combine_done, combine_left, combine_refused}
 use Rattle.cht_session.proofs.statements.combine.Goals as goal
 
@@ -28,8 +27,8 @@ pub combined-requires-clause-defined : goal.combined-requires-clause-defined
 combined-requires-clause-defined g c =
     let room = c.make_room.new.self in
     let seen = g.E.Engine.seen c.args.engine.now in
-    let p = found_as room c.as_bytes-2.result.now _ c.in-Some.a c.as_bytes-2.ensures c.in-Some.ensures in
-    let q = found_as room c.as_bytes-3.result.now _ c.in-Some-find.b c.as_bytes-3.ensures c.in-Some-find.ensures in
+    let p = subst (λ n. found_in room n ≡ Some c.in-Some.a) c.as_bytes-2.ensures (sym c.in-Some.ensures) in
+    let q = subst (λ n. found_in room n ≡ Some c.in-Some-find.b) c.as_bytes-3.ensures (sym c.in-Some-find.ensures) in
     subst (λ h. IsReadyPair seen h c.args.operation c.in-Some.a c.in-Some-find.b) (sym c.height.ensures)
     (combine_ready c.args.operation c.args.names.now seen c.args.held.now room c.in-Some.a c.in-Some-find.b c.make_room.ensures.same c.requires.shapes p q c.requires.well)
 
@@ -44,8 +43,8 @@ returns-in_default-2-clause-acts g c = λ line env shown.
     let now = g.E.Engine.seen c.combined.new.engine in
     let a = c.in-Some.a in
     let b = c.in-Some-find.b in
-    let p = found_as room c.as_bytes-2.result.now _ a c.as_bytes-2.ensures c.in-Some.ensures in
-    let q = found_as room c.as_bytes-3.result.now _ b c.as_bytes-3.ensures c.in-Some-find.ensures in
+    let p = subst (λ n. found_in room n ≡ Some a) c.as_bytes-2.ensures (sym c.in-Some.ensures) in
+    let q = subst (λ n. found_in room n ≡ Some b) c.as_bytes-3.ensures (sym c.in-Some-find.ensures) in
     let got = subst (λ o. Combines seen now c.height.result c.args.operation a b (Ok o)) c.in_default-2.is c.in_ok-at.ensures in
     let at_height = subst (λ h. Combines seen now h c.args.operation a b (Ok None)) c.height.ensures got in
     combine_refused c.args.operation c.args.names.now seen now c.args.held.now room a b c.requires.count c.make_room.ensures.same c.requires.shapes p q at_height line env shown
@@ -66,8 +65,8 @@ returns-in_err-bind-clause-going g c =
     let b = c.in-Some-find.b in
     let at = c.in-Some-2.at in
     let none = subst (λ n. found_in room n ≡ None) c.as_bytes.ensures c.in_ok-make_room.ensures.fresh in
-    let p = found_as room c.as_bytes-2.result.now _ a c.as_bytes-2.ensures c.in-Some.ensures in
-    let q = found_as room c.as_bytes-3.result.now _ b c.as_bytes-3.ensures c.in-Some-find.ensures in
+    let p = subst (λ n. found_in room n ≡ Some a) c.as_bytes-2.ensures (sym c.in-Some.ensures) in
+    let q = subst (λ n. found_in room n ≡ Some b) c.as_bytes-3.ensures (sym c.in-Some-find.ensures) in
     let got = subst (λ o. Combines seen now c.height.result c.args.operation a b (Ok o)) c.in-Some-2.is c.in_ok-at.ensures in
     let at_height = subst (λ h. Combines seen now h c.args.operation a b (Ok (Some at))) c.height.ensures got in
     combine_left c.args.operation c.args.names.now seen now c.args.held.now room c.bind.new.self a b c.make_room.ensures.same c.requires.shapes p q at none at_height
@@ -82,8 +81,8 @@ returns-clause-acts g c = λ line env shown.
     let b = c.in-Some-find.b in
     let at = c.in-Some-2.at in
     let none = subst (λ n. found_in room n ≡ None) c.as_bytes.ensures c.in_ok-make_room.ensures.fresh in
-    let p = found_as room c.as_bytes-2.result.now _ a c.as_bytes-2.ensures c.in-Some.ensures in
-    let q = found_as room c.as_bytes-3.result.now _ b c.as_bytes-3.ensures c.in-Some-find.ensures in
+    let p = subst (λ n. found_in room n ≡ Some a) c.as_bytes-2.ensures (sym c.in-Some.ensures) in
+    let q = subst (λ n. found_in room n ≡ Some b) c.as_bytes-3.ensures (sym c.in-Some-find.ensures) in
     let got = subst (λ o. Combines seen now c.height.result c.args.operation a b (Ok o)) c.in-Some-2.is c.in_ok-at.ensures in
     let at_height = subst (λ h. Combines seen now h c.args.operation a b (Ok (Some at))) c.height.ensures got in
     let added = subst (λ n. IsAdded room n c.sizes-rows.result.0 c.sizes-rows.result.1 at c.bind.new.self) c.as_bytes-4.ensures c.in_ok-bind.ensures.bound in

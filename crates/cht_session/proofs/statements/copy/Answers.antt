@@ -1,7 +1,6 @@
-use Rattle.std.proofs.Common.{◌≡◌, None, refl, sym, subst}
+use Rattle.std.proofs.Common.{◌≡◌, None, Some, refl, sym, subst}
 use Rattle.cht_session.specs.Bindings.{found_in, IsAdded}
 use Rattle.cht_session.proofs.Effects.{effect_going}
-use Rattle.cht_session.proofs.Bindings.{found_as}
 use Rattle.cht_session.proofs.Doing.{undone, still, not_copied, copy_done, copy_left, copy_ready}
 use Rattle.cht_session.proofs.statements.copy.Goals as goal
 
@@ -26,7 +25,7 @@ pub returns-in_err-bind-clause-going : goal.returns-in_err-bind-clause-going
 returns-in_err-bind-clause-going g c =
     let room = c.make_room.new.self in
     let none = subst (λ n. found_in room n ≡ None) c.as_bytes.ensures c.in_ok-make_room.ensures.fresh in
-    let found = found_as room c.as_bytes-2.result.now _ c.in-Some.from c.as_bytes-2.ensures c.in-Some.ensures in
+    let found = subst (λ n. found_in room n ≡ Some c.in-Some.from) c.as_bytes-2.ensures (sym c.in-Some.ensures) in
     copy_left c.args.names.now (g.E.Engine.seen c.args.engine.now) (g.E.Engine.seen c.copy.new.self) c.args.held.now room c.bind.new.self c.in-Some.from c.in_ok-at.at
     c.requires.count c.make_room.ensures.same none found c.in_ok-at.ensures c.requires.well c.bind.ensures.leaf c.bind.ensures.height c.bind.ensures.order
 
@@ -35,7 +34,7 @@ returns-clause-acts g c = λ line env shown.
     let room = c.make_room.new.self in
     let from = c.in-Some.from in
     let none = subst (λ n. found_in room n ≡ None) c.as_bytes.ensures c.in_ok-make_room.ensures.fresh in
-    let found = found_as room c.as_bytes-2.result.now _ from c.as_bytes-2.ensures c.in-Some.ensures in
+    let found = subst (λ n. found_in room n ≡ Some from) c.as_bytes-2.ensures (sym c.in-Some.ensures) in
     let added = subst (λ n. IsAdded room n from.rows from.columns c.in_ok-at.at c.bind.new.self) c.as_bytes-3.ensures c.in_ok-bind.ensures.bound in (
       refl,
       copy_done c.args.names.now (g.E.Engine.seen c.args.engine.now) (g.E.Engine.seen c.copy.new.self) c.args.held.now room c.bind.new.self from c.in_ok-at.at

@@ -1,6 +1,6 @@
-use Rattle.std.proofs.Common.{refl, sym}
+use Rattle.std.proofs.Common.{◌≡◌, Some, refl, sym, subst}
+use Rattle.cht_session.specs.Bindings.{found_in}
 use Rattle.cht_session.proofs.Doing.{stays_still}
-use Rattle.cht_session.proofs.Bindings.{found_as}
 use Rattle.cht_session.proofs.Writing.{name_mentioned, name_block, print_stated}
 use Rattle.cht_session.proofs.texts.print.Goals as goal
 
@@ -22,7 +22,7 @@ returns-in_err-cells-clause-going g c = stays_still (g.E.Engine.seen c.args.engi
 
 pub returns-clause-acts : goal.returns-clause-acts
 returns-clause-acts g c = λ line env shown.
-    let found = found_as c.args.held.now c.as_bytes.result.now _ c.in-Some.a c.as_bytes.ensures c.in-Some.ensures in
+    let found = subst (λ n. found_in c.args.held.now n ≡ Some c.in-Some.a) c.as_bytes.ensures (sym c.in-Some.ensures) in
     print_stated c.args.names.now (g.E.Engine.seen c.args.engine.now) (g.E.Engine.seen c.entries_of.new.engine) c.args.held.now env c.in-Some.a c.requires.count shown found line
     c.in_ok-cells.cells c.write_cells.result (g.K.Sink.took c.args.out.now) (g.K.Sink.took c.write_cells.new.out) c.entries_of.ensures.unchanged c.in_ok-cells.ensures.listed
     (rw c.as_slice.ensures at c.write_cells.ensures.written)

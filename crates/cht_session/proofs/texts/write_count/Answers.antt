@@ -1,8 +1,8 @@
-use Rattle.std.proofs.Common.{rules, true, pos, length, [], ◌∷◌, ◌++◌, refl, sym}
+use Rattle.std.proofs.Common.{rules, ◌≡◌, Some, true, pos, length, [], ◌∷◌, ◌++◌, refl, sym, subst}
 use Rattle.cht_ids.specs.Numeral.{number_text}
 use Rattle.cht_session.specs.Running.{IsWritten}
+use Rattle.cht_session.specs.Bindings.{found_in}
 use Rattle.cht_session.proofs.Doing.{stays_still}
-use Rattle.cht_session.proofs.Bindings.{found_as}
 use Rattle.cht_session.proofs.Writing.{name_mentioned, name_block, count_stated}
 use Rattle.cht_session.proofs.texts.write_count.Goals as goal
 
@@ -24,7 +24,7 @@ returns-in_err-cells-clause-going g c = stays_still (g.E.Engine.seen c.args.engi
 
 pub returns-clause-acts : goal.returns-clause-acts
 returns-clause-acts g c = λ line env shown.
-    let found = found_as c.args.held.now c.as_bytes.result.now _ c.in-Some.a c.as_bytes.ensures c.in-Some.ensures in
+    let found = subst (λ n. found_in c.args.held.now n ≡ Some c.in-Some.a) c.as_bytes.ensures (sym c.in-Some.ensures) in
     let took = g.K.Sink.took c.args.out.now in
     let after = g.K.Sink.took c.write_line.new.out in
     let written : IsWritten c.write_line.result true (number_text (pos (length c.in_ok-cells.cells)) ++ 10 ∷ []) took after = search rules in

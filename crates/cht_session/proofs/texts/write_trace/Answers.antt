@@ -1,14 +1,14 @@
-use Rattle.std.proofs.Common.{rules, true, [], ◌∷◌, ◌++◌, refl, sym, subst, FitsSigned}
+use Rattle.std.proofs.Common.{rules, ◌≡◌, Some, true, [], ◌∷◌, ◌++◌, refl, sym, subst, FitsSigned}
 use Rattle.std.specs.Int.{w128}
 use Rattle.std.proofs.lemmas.Int.{to_z-of_z}
 use Rattle.cht_engine.specs.Seen.{MayMention, tree_named}
 use Rattle.quad_matrix.specs.declared.kind.What.TheVariants.{Trace}
 use Rattle.quad_matrix.specs.Goals.{kind_of, IsDefined}
+use Rattle.cht_session.specs.Bindings.{found_in}
 use Rattle.cht_ids.specs.Numeral.{number_text}
 use Rattle.cht_session.specs.Running.{IsWritten}
 use Rattle.cht_session.specs.Given.{IsTraced, IsUndone}
 use Rattle.cht_session.proofs.Doing.{stays, stays_still, traced_undone}
-use Rattle.cht_session.proofs.Bindings.{found_as}
 use Rattle.cht_session.proofs.Writing.{name_mentioned, trace_refusal, trace_stated, trace_defined}
 use Rattle.cht_session.proofs.texts.write_trace.Goals as goal
 
@@ -25,7 +25,7 @@ returns-in_err-peak-clause-going g c = stays_still (g.E.Engine.seen c.args.engin
 
 pub returns-then-not-fits_product-clause-acts : goal.returns-then-not-fits_product-clause-acts
 returns-then-not-fits_product-clause-acts g c = λ line env shown.
-    let found = found_as c.args.held.now c.as_bytes.result.now _ c.in-Some.a c.as_bytes.ensures c.in-Some.ensures in
+    let found = subst (λ n. found_in c.args.held.now n ≡ Some c.in-Some.a) c.as_bytes.ensures (sym c.in-Some.ensures) in
     trace_refusal c.args.names.now (g.E.Engine.seen c.args.engine.now) (g.E.Engine.seen c.peak_at.new.engine) c.args.held.now env c.in-Some.a c.requires.count shown found c.requires.square
     c.in_ok-peak.peak c.fits_product.result c.in_ok-peak.ensures.peak c.fits_product.ensures line (g.K.Sink.took c.args.out.now) c.if-not-fits_product.true c.peak_at.ensures.unchanged
 
@@ -42,7 +42,7 @@ traced-requires-clause-held g c =
 pub traced-requires-clause-defined : goal.traced-requires-clause-defined
 traced-requires-clause-defined g c =
     let seen = g.E.Engine.seen c.args.engine.now in
-    let found = found_as c.args.held.now c.as_bytes.result.now _ c.in-Some.a c.as_bytes.ensures c.in-Some.ensures in
+    let found = subst (λ n. found_in c.args.held.now n ≡ Some c.in-Some.a) c.as_bytes.ensures (sym c.in-Some.ensures) in
     let defined = trace_defined c.args.names.now seen seen c.args.held.now c.requires.well.0 c.in-Some.a c.requires.count c.requires.well.1 found c.requires.square
     c.in_ok-peak.peak c.fits_product.result c.in_ok-peak.ensures.peak c.fits_product.ensures c.if-not-fits_product.false in
     subst (λ h. IsDefined (kind_of Trace h) (tree_named (g.E.Engine.seen c.peak_at.new.engine) c.in-Some.a.at ∷ [])) (sym c.height.ensures)
@@ -60,7 +60,7 @@ returns-clause-acts g c = λ line env shown.
     let seen = g.E.Engine.seen c.args.engine.now in
     let now = g.E.Engine.seen c.traced.new.engine in
     let at = c.in-Some.a.at in
-    let found = found_as c.args.held.now c.as_bytes.result.now _ c.in-Some.a c.as_bytes.ensures c.in-Some.ensures in
+    let found = subst (λ n. found_in c.args.held.now n ≡ Some c.in-Some.a) c.as_bytes.ensures (sym c.in-Some.ensures) in
     let got = subst (λ h. IsTraced (g.E.Engine.seen c.peak_at.new.engine) now h at c.in_ok-number.number) c.height.ensures c.in_ok-number.ensures in
     let traced = subst (λ s. IsTraced s now c.args.held.now.height at c.in_ok-number.number) c.peak_at.ensures.unchanged got in
     let wide : FitsSigned w128 c.in_ok-number.number = search rules in
