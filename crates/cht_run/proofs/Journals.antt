@@ -1,6 +1,6 @@
 -- What the journal of a run holds, from the parts of the run.
-use Rattle.std.proofs.Common.{◌≡◌, ℕ, ◌+◌, ◌^◌, Bool, true, false, cond, List, [], ◌∷◌, ◌++◌, take, Option, None, Some, refl, sym, ap, subst, ◌∙◌, zero-add}
-use Rattle.std.specs.Prelude.{if◌then◌else◌, map, filter, count_by}
+use Rattle.std.proofs.Common.{◌≡◌, ℕ, ◌+◌, ◌^◌, Bool, true, false, List, [], ◌∷◌, take, Option, None, Some, refl, sym, ap, subst, ◌∙◌, zero-add}
+use Rattle.std.specs.Prelude.{if◌then◌else◌, map, filter}
 use Rattle.std.specs.Ordering.{nat_cmp}
 use Rattle.std.specs.FinMap as maps
 use Rattle.std.specs.FinSet as numbers
@@ -8,13 +8,11 @@ use Rattle.name_machine.specs.Control.{no_control}
 use Rattle.name_machine.specs.Parts.{is_callers_own}
 use Rattle.cht_history.specs.declared.event.Event.{Event}
 use Rattle.cht_engine.specs.Seen.{Seen, unseen}
-use Rattle.cht_engine.specs.Closing.{is_finish, EndsEmpty, AreClosed}
+use Rattle.cht_engine.specs.Closing.{EndsEmpty, AreClosed}
 use Rattle.quad_matrix.specs.declared.chunk.MatChunk.{MatChunk}
 use Rattle.quad_matrix.specs.declared.kind.MatKind.{MatKind}
 use Rattle.cht_script.specs.declared.checked.Checked.{Checked}
 use Rattle.cht_script.specs.Meaning.{Known, Deed, is_refused, known_by, text_by, line_of, Told, after_text, told_by, deeds_of}
-use Rattle.cht_script.specs.NotRun.{refused_text}
-use Rattle.cht_script.specs.Items.{heading_of}
 use Rattle.cht_script.specs.Reading.{IsLeastHeight}
 use Rattle.cht_script.specs.Checking.{IsChecked, deed_in}
 use Rattle.cht_session.specs.declared.ended.Ended.{Ended}
@@ -24,7 +22,7 @@ use Rattle.cht_session.specs.Works.{works_by}
 use Rattle.cht_session.specs.Running.{Ran, IsRun, HasRun}
 use Rattle.cht_run.specs.declared.status.Status.{Status}
 use Rattle.cht_run.specs.declared.status.Status.TheVariants.{Done, Usage, Refused, ReadFault, WriteFault, Memory}
-use Rattle.cht_run.specs.Answers.{WasRead, IsSilent}
+use Rattle.cht_run.specs.Answers.{WasRead}
 use Rattle.cht_run.specs.Judged.{Judges}
 use Rattle.cht_run.specs.Number.{status_of}
 use Rattle.cht_run.specs.Journals.{matrix_plans, IsJournalOf, Journals}
@@ -45,8 +43,8 @@ pub all_done : (known : List Known) (deeds : List Deed) → (told_by known deeds
 all_done known [] none = refl
 all_done known (deed ∷ deeds) none =
     elim (is_refused known deed) as (λ (b : Bool).
-      (if b then (let told : Told = record { text = []; refused = Some (line_of deed) } in told) else after_text (text_by known deed) (told_by (known_by known deed) deeds)).refused ≡ None
-      → (if b then [] else deed ∷ done_of (known_by known deed) deeds) ≡ deed ∷ deeds) [
+    (if b then (let told : Told = record { text = []; refused = Some (line_of deed) } in told) else after_text (text_by known deed) (told_by (known_by known deed) deeds)).refused ≡ None
+    → (if b then [] else deed ∷ done_of (known_by known deed) deeds) ≡ deed ∷ deeds) [
       | true ↦ λ e. absurd cc
       | false ↦ λ e. ap (λ ds. deed ∷ ds) (all_done (known_by known deed) deeds e)
     ] none
@@ -58,7 +56,7 @@ run_journal : (text : List ℕ) (checked : Checked) (deeds : List Deed) (seen : 
     → IsJournalOf text deeds events
 run_journal text checked deeds seen events is done run caller closed =
     let own : filter (is_callers_own 0) events ≡ run.events =
-        ap (λ c. filter (is_callers_own c) events) (sym caller) ∙ closed.own ∙ run.told in
+    ap (λ c. filter (is_callers_own c) events) (sym caller) ∙ closed.own ∙ run.told in
     record {
       heading = is.heading;
       found = is.found;

@@ -82,12 +82,7 @@ fn run<S: Source, K: Sink>(
 }
 
 // Runs the script that is this text.
-fn judge<K: Sink>(
-    alloc: Global,
-    text: &[u8],
-    out: &mut K,
-    journal: &mut Record<MatLib>,
-) -> Status
+fn judge<K: Sink>(alloc: Global, text: &[u8], out: &mut K, journal: &mut Record<MatLib>) -> Status
     requires empty { journal.old ≡ [] }
     ensures judged { Judges result text.now (K.took out.old) (K.took out.new) }
     ensures silent { IsSilent result → K.took out.new ≡ K.took out.old }

@@ -1,4 +1,4 @@
-use Rattle.std.proofs.Common.{◌≡◌, sym, ap, subst, ◌∙◌}
+use Rattle.std.proofs.Common.{sym, ap, subst, ◌∙◌}
 use Rattle.std.specs.Prelude.{map}
 use Rattle.cht_engine.specs.Seen.{Seen, unseen}
 use Rattle.quad_matrix.specs.declared.chunk.MatChunk.{MatChunk}
@@ -26,8 +26,8 @@ returns-clause-journaled g c = λ text is.
     let checked = c.args.checked.now in
     let after : Seen MatChunk MatKind = seen_of matrices c.run_script-ended.new.engine in
     let run : HasRun end checked.leaf checked.height (map deed_in checked.steps) (unseen 0) after =
-        subst (λ (before : Seen MatChunk MatKind). HasRun end checked.leaf checked.height (map deed_in checked.steps) before after) c.in-Ok.ensures
-        c.run_script-ended.ensures.program in
+    subst (λ (before : Seen MatChunk MatKind). HasRun end checked.leaf checked.height (map deed_in checked.steps) before after) c.in-Ok.ensures
+    c.run_script-ended.ensures.program in
     subst (λ status. Journals status text c.close.result) (sym c.status_of.ensures)
     (run_journaled end text checked (g.K.Sink.took c.args.out.now) (g.K.Sink.took c.run_script-ended.new.out) after c.close.result is
     c.run_script-ended.ensures.ran run (c.run_script-ended.ensures.caller ∙ ap (λ (s : Seen MatChunk MatKind). s.caller) c.in-Ok.ensures) c.close.ensures)
