@@ -2,6 +2,7 @@
 //! work. It ends with the number of the status: 0 done, 1 usage, 2 refused, 3 read fault, 4 write fault, 5 memory.
 #![tactic(auto)]
 
+use cht_core::Record;
 use cht_io::{StdSink, StdSource};
 use cht_run::cht;
 use std::env;
@@ -23,6 +24,14 @@ fn main(rt: HostRuntime) -> ExitCode {
     let mut source = StdSource::new(rt.stdin());
     let mut out = StdSink::new(rt.stdout());
     let mut notes = StdSink::new(rt.stderr());
-    let status = cht(rt.alloc(), &words, &mut source, &mut out, &mut notes);
+    let mut journal = Record::new(rt.alloc());
+    let status = cht(
+        rt.alloc(),
+        &words,
+        &mut source,
+        &mut out,
+        &mut notes,
+        &mut journal,
+    );
     ExitCode::from(status.number())
 }

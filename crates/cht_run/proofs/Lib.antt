@@ -1,15 +1,4 @@
 pub mod Pieces
 pub mod Short
 pub mod Statuses
-pub mod Named
-pub mod Deeds
-pub mod Turns
-pub mod Order
-pub mod Trees
-pub mod Evaluation
-pub mod Contents
-pub mod Completed
-pub mod Kept
-pub mod Served
-pub mod ListedEntries
-pub mod Rows
+pub mod Journals

@@ -1,7 +1,7 @@
 -- What the answers of the run's parts say of its input.
-use Rattle.std.proofs.Common.{◌≡◌, ℕ, ◌+◌, ◌^◌, ◌≤◌, ◌<◌, Bool, true, false, cond, List, [], length, take, drop, Option, None, Some, refl, sym, ap, subst, ◌∙◌, inl, inr, arith}
+use Rattle.std.proofs.Common.{◌≡◌, ℕ, ◌+◌, ◌^◌, ◌≤◌, ◌<◌, Bool, cond, List, [], length, take, drop, Option, None, Some, refl, sym, ap, subst, ◌∙◌, inl, inr, arith}
 use Rattle.std.specs.Prelude.{◌⊎◌, option_map, map, Err}
-use Rattle.std.proofs.lemmas.Bool.{cases_lt, le-leb, lt-leb}
+use Rattle.std.proofs.lemmas.Bool.{cases_lt, lt-leb}
 use Rattle.std.proofs.lemmas.List.{take_all, length-take, length-drop, nil_from_length}
 use Rattle.cht_io.specs.Bytes.{Adds, AddsFront}
 use Rattle.mm_text.specs.Faults.{or_else}
@@ -13,6 +13,9 @@ use Rattle.cht_script.specs.Meaning.{told_by, told_of, deeds_of}
 use Rattle.cht_script.specs.Reading.{IsLeastHeight}
 use Rattle.cht_script.specs.Checking.{IsChecked, deed_in}
 use Rattle.cht_script.specs.NotRun.{not_run_in, refused_text}
+use Rattle.cht_session.specs.declared.ended.Ended.{Ended}
+use Rattle.cht_session.specs.declared.ended.Ended.TheVariants as ended
+use Rattle.cht_session.specs.Running.{Ran}
 use Rattle.cht_run.specs.declared.reading.ReadStop.{ReadStop}
 use Rattle.cht_run.specs.declared.reading.ReadStop.TheVariants as stops
 use Rattle.cht_run.specs.declared.status.Status.{Status}
@@ -20,7 +23,7 @@ use Rattle.cht_run.specs.declared.status.Status.TheVariants.{Done, Usage, Refuse
 use Rattle.cht_run.specs.Verdict.{meaning, refusal, too_great}
 use Rattle.cht_run.specs.Answers.{Answers, WasRead, ReadUpTo, IsSilent, status_by, status_for}
 use Rattle.cht_run.specs.Judged.{Judges}
-use Rattle.cht_run.specs.Running.{Ran}
+use Rattle.cht_run.specs.Number.{status_of}
 use Rattle.cht_run.specs.Reading.{Stopped}
 
 -- ---- The text that was read, and the whole input
@@ -33,7 +36,7 @@ long_verdict text long =
 short_input : (input : List ℕ) → length input ≤ 2 ^ 26 → take (2 ^ 26 + 1) input ≡ input
 short_input input short = take_all (2 ^ 26 + 1) input (omega arith)
 
-verdict_read : (input : List ℕ) → refused_text (take (2 ^ 26 + 1) input) ≡ refused_text input
+pub verdict_read : (input : List ℕ) → refused_text (take (2 ^ 26 + 1) input) ≡ refused_text input
 verdict_read input =
     elim (cases_lt (2 ^ 26) (length input)) [
       | inr short ↦ ap refused_text (short_input input short)
@@ -52,16 +55,21 @@ nothing_left : (input : List ℕ) → length input ≤ 2 ^ 26 → drop (2 ^ 26 +
 nothing_left input short = nil_from_length (drop (2 ^ 26 + 1) input) (omega (arith, length-drop (2 ^ 26 + 1) input))
 
 -- what is known of an input whose text has no fault
-record IsGood (input text : List ℕ) (left : Option (List ℕ)) : Type 0 where
-  good : refused_text input ≡ None
-  all : left ≡ Some []
-  same : text ≡ input
+pub record IsGood (input text : List ℕ) (left : Option (List ℕ)) : Type 0 where
+  pub good : refused_text input ≡ None
+  pub all : left ≡ Some []
+  pub same : text ≡ input
 
-is_good : (input text : List ℕ) (left : Option (List ℕ)) → text ≡ take (2 ^ 26 + 1) input → WasRead input left → refused_text text ≡ None → IsGood input text left
+pub is_good : (input text : List ℕ) (left : Option (List ℕ)) → text ≡ take (2 ^ 26 + 1) input → WasRead input left → refused_text text ≡ None → IsGood input text left
 is_good input text left e read good =
     let g : refused_text input ≡ None = sym (verdict_read input) ∙ ap refused_text (sym e) ∙ good in
     let short = good_is_short input g in
     record { good = g; all = read ∙ ap (λ (l : List ℕ). Some l) (nothing_left input short); same = e ∙ short_input input short }
+
+-- the text of an input without a fault has none, and is the input
+pub good_text : (input text : List ℕ) → text ≡ take (2 ^ 26 + 1) input → refused_text input ≡ None → (refused_text text ≡ None) × (text ≡ input)
+good_text input text e good =
+    (ap refused_text e ∙ verdict_read input ∙ good, e ∙ short_input input (good_is_short input good))
 
 -- what a judgment of the text that was read says of the input
 pub judged_input : (status : Status) (input text : List ℕ) (left before after : Option (List ℕ)) → (text ≡ take (2 ^ 26 + 1) input) × WasRead input left
@@ -115,26 +123,24 @@ few_levels grid b h some few levels =
 too_great_is : (fault : Fault) → fault.code ≡ 19 → too_great fault.line ≡ fault
 too_great_is fault e = rw (← e) refl
 
-judged_told : (status : Status) (text : List ℕ) (before after : Option (List ℕ)) → refused_text text ≡ None
-    → Ran status (told_of text) before after → Judges status text before after
-judged_told Done text before after good ran = (good, ap (option_map too_great) ran.0, ran.1)
-judged_told Usage text before after good ran = absurd ran
-judged_told (Refused fault) text before after good ran =
+judged_told : (end : Ended) (text : List ℕ) (before after : Option (List ℕ)) → refused_text text ≡ None
+    → Ran end (told_of text) before after → Judges (status_of end) text before after
+judged_told ended.Done text before after good ran = (good, ap (option_map too_great) ran.0, ran.1)
+judged_told (ended.Refused fault) text before after good ran =
     inr (good, ap (option_map too_great) ran.1 ∙ ap (λ f. Some f) (too_great_is fault ran.0), ran.2)
-judged_told ReadFault text before after good ran = absurd ran
-judged_told WriteFault text before after good ran = (good, ran)
-judged_told Memory text before after good ran = inr (good, ran)
+judged_told ended.WriteFault text before after good ran = (good, ran)
+judged_told ended.Memory text before after good ran = inr (good, ran)
 
 -- what is told before the run of a text without a fault
-told_before : (text : List ℕ) (checked : Checked) → IsChecked text checked → refused_text text ≡ not_run_in (map deed_in checked.steps)
+pub told_before : (text : List ℕ) (checked : Checked) → IsChecked text checked → refused_text text ≡ not_run_in (map deed_in checked.steps)
 told_before text checked is = ap (λ v. or_else v (not_run_in (deeds_of text))) is.clean ∙ ap not_run_in (sym is.deeds)
 
-pub judged_run : (status : Status) (text : List ℕ) (checked : Checked) (before after : Option (List ℕ)) → IsChecked text checked
-    → not_run_in (map deed_in checked.steps) ≡ None → Ran status (told_by [] (map deed_in checked.steps)) before after
-    → Judges status text before after
-judged_run status text checked before after is run ran =
-    judged_told status text before after (told_before text checked is ∙ run)
-    (subst (λ deeds. Ran status (told_by [] deeds) before after) is.deeds ran)
+pub judged_run : (end : Ended) (text : List ℕ) (checked : Checked) (before after : Option (List ℕ)) → IsChecked text checked
+    → not_run_in (map deed_in checked.steps) ≡ None → Ran end (told_by [] (map deed_in checked.steps)) before after
+    → Judges (status_of end) text before after
+judged_run end text checked before after is run ran =
+    judged_told end text before after (told_before text checked is ∙ run)
+    (subst (λ deeds. Ran end (told_by [] deeds) before after) is.deeds ran)
 
 -- a statement that is not run
 pub judged_not_run : (text : List ℕ) (checked : Checked) (fault : Fault) (before : Option (List ℕ)) → IsChecked text checked

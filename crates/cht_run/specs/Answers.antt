@@ -50,7 +50,7 @@ Answers WriteFault input left before after = WritesFront input left before after
 Answers Memory input left before after =
     (ReadUpTo (most_bytes + 1) input left × (after ≡ before)) ⊎ WritesFront input left before after
 
--- the answers after which nothing was written, whatever the devices tell: with code 19 statements before may have written
+-- the answers after which nothing was run and nothing written, whatever the devices tell: with code 19 statements before may have been
 abbrev pub IsSilent : Status → Type 0
 IsSilent Usage = Unit {0}
 IsSilent (Refused fault) = fault.code ≢ 19

@@ -4,11 +4,4 @@ pub mod Answers
 pub mod Number
 pub mod Reading
 pub mod Judged
-pub mod Held
-pub mod Running
-pub mod Nodes
-pub mod Parts
-pub mod Numbers
-pub mod HeldMatrices
-pub mod Listed
-pub mod Rows
+pub mod Journals

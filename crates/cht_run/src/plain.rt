@@ -1,27 +1,33 @@
-ghost use Rattle.std.specs.Prelude.{◌≡◌, ◌≢◌, ◌⊎◌, List, ℕ, Some};
+ghost use Rattle.std.specs.Prelude.{◌≡◌, ◌≢◌, ◌⊎◌, List, ℕ, [], Some};
 ghost use Rattle.cht_io.specs.Faults.{Rose};
+ghost use Rattle.cht_engine.specs.Closing.{EndsEmpty};
 ghost use Rattle.cht_script.specs.Checking.{IsChecked, IsJudged};
 ghost use Rattle.cht_run.specs.Answers.{Answers, IsSilent, status_for};
+ghost use Rattle.cht_run.specs.Journals.{matrix_plans, Journals};
 ghost use Rattle.cht_run.specs.Judged.{Judges};
 ghost use Rattle.cht_run.specs.Notes.{Notes};
 
 use crate::notes::tell;
 use crate::reading::{ReadStop, read_all};
-use crate::run::run_script;
+use crate::run::run_on_engine;
 use crate::status::Status;
+use cht_core::Record;
 use cht_io::{Sink, Source};
 use cht_script::{Checked, ScriptRefused, check, not_run_yet, parse};
+use cht_session::MatLib;
 use std::alloc::Global;
 
 /// Runs the script of a source on the calling thread: reads it to its end, looks for a fault, does its statements in order,
-/// up to the first that is refused, writes their text to `out`, and one line to `notes` where it ends otherwise than done. It
-/// always returns.
+/// up to the first that is refused, as tasks on chunks, writes their text to `out`, and one line to `notes` where it ends otherwise
+/// than done. Hands back the journal of the run, which is empty where nothing was run. It always returns.
 pub fn plain_call<S: Source, K: Sink, N: Sink>(
     alloc: Global,
     source: &mut S,
     out: &mut K,
     notes: &mut N,
+    journal: &mut Record<MatLib>,
 ) -> Status
+    requires empty { journal.old ≡ [] }
     // What the answer says of the input that the source told, and of what was written.
     ensures told { (input : List ℕ) → S.left source.old ≡ Some input
         → Answers result input (S.left source.new) (K.took out.old) (K.took out.new) }
@@ -38,36 +44,55 @@ pub fn plain_call<S: Source, K: Sink, N: Sink>(
         → (result ≡ status_for input) ⊎ (result ≡ Status.Memory) }
 
     ensures noted { Notes result (N.took notes.old) (N.took notes.new) (N.faults notes.old) (N.faults notes.new) }
+
+    // The journal can be replayed, to the empty state. It tells what was run of the input that the source told, and nothing
+    // where nothing was.
+    ensures ends_empty { EndsEmpty matrix_plans journal.new }
+    ensures no_events { IsSilent result → journal.new ≡ [] }
+    ensures journaled { (input : List ℕ) → S.left source.old ≡ Some input → Journals result input journal.new }
 {
-    let status = run(alloc, source, out);
+    let status = run(alloc, source, out, journal);
     tell(notes, status);
     status
 }
 
 // The run without its note.
-fn run<S: Source, K: Sink>(alloc: Global, source: &mut S, out: &mut K) -> Status
+fn run<S: Source, K: Sink>(
+    alloc: Global,
+    source: &mut S,
+    out: &mut K,
+    journal: &mut Record<MatLib>,
+) -> Status
+    requires empty { journal.old ≡ [] }
     ensures told { (input : List ℕ) → S.left source.old ≡ Some input
         → Answers result input (S.left source.new) (K.took out.old) (K.took out.new) }
     ensures silent { IsSilent result → K.took out.new ≡ K.took out.old }
     ensures no_usage { result ≢ Status.Usage }
     ensures read_fault { result ≡ Status.ReadFault → Rose (S.faults source.old) (S.faults source.new) }
     ensures write_fault { result ≡ Status.WriteFault → Rose (K.faults out.old) (K.faults out.new) }
+    ensures ends_empty { EndsEmpty matrix_plans journal.new }
+    ensures no_events { IsSilent result → journal.new ≡ [] }
+    ensures journaled { (input : List ℕ) → S.left source.old ≡ Some input → Journals result input journal.new }
 {
     match read_all(alloc, source) {
         Err(ReadStop::Failed) => Status::ReadFault,
         Err(ReadStop::Memory) => Status::Memory,
-        Ok(text) => judge(alloc, &text, out),
+        Ok(text) => judge(alloc, &text, out, journal),
     }
 }
 
 // Runs the script that is this text.
-fn judge<K: Sink>(alloc: Global, text: &[u8], out: &mut K) -> Status
+fn judge<K: Sink>(alloc: Global, text: &[u8], out: &mut K, journal: &mut Record<MatLib>) -> Status
+    requires empty { journal.old ≡ [] }
     ensures judged { Judges result text.now (K.took out.old) (K.took out.new) }
     ensures silent { IsSilent result → K.took out.new ≡ K.took out.old }
     ensures write_fault { result ≡ Status.WriteFault → Rose (K.faults out.old) (K.faults out.new) }
+    ensures ends_empty { EndsEmpty matrix_plans journal.new }
+    ensures no_events { IsSilent result → journal.new ≡ [] }
+    ensures journaled { Journals result text.now journal.new }
 {
     match examine(alloc, text) {
-        Ok(checked) => run_checked(alloc, &checked, out),
+        Ok(checked) => run_checked(alloc, &checked, out, journal),
         Err(ScriptRefused::Fault(fault)) => Status::Refused(fault),
         Err(ScriptRefused::Memory) => Status::Memory,
     }
@@ -82,14 +107,23 @@ fn examine(alloc: Global, text: &[u8]) -> Result<Checked, ScriptRefused>
 }
 
 // Runs a script without a fault, if all of its statements are run.
-fn run_checked<K: Sink>(alloc: Global, checked: &Checked, out: &mut K) -> Status
-    requires { (text : List ℕ) × IsChecked text checked.now }
+fn run_checked<K: Sink>(
+    alloc: Global,
+    checked: &Checked,
+    out: &mut K,
+    journal: &mut Record<MatLib>,
+) -> Status
+    requires checked { (text : List ℕ) × IsChecked text checked.now }
+    requires empty { journal.old ≡ [] }
     ensures judged { (text : List ℕ) → IsChecked text checked.now → Judges result text (K.took out.old) (K.took out.new) }
     ensures silent { IsSilent result → K.took out.new ≡ K.took out.old }
     ensures write_fault { result ≡ Status.WriteFault → Rose (K.faults out.old) (K.faults out.new) }
+    ensures ends_empty { EndsEmpty matrix_plans journal.new }
+    ensures no_events { IsSilent result → journal.new ≡ [] }
+    ensures journaled { (text : List ℕ) → IsChecked text checked.now → Journals result text journal.new }
 {
     match not_run_yet(checked) {
         Some(fault) => Status::Refused(fault),
-        None => run_script(alloc, checked, out),
+        None => run_on_engine(alloc, checked, out, journal),
     }
 }

@@ -1,5 +1,6 @@
 use Rattle.std.proofs.Common.{refl, inl}
 use Rattle.cht_run.proofs.Statuses.{judged_input, read_failed, read_memory}
+use Rattle.cht_run.proofs.Journals.{none_ends_empty, journaled_input}
 use Rattle.cht_run.proofs.plain.run.Goals as goal
 
 pub returns-in-Err-Failed-clause-told : goal.returns-in-Err-Failed-clause-told
@@ -14,3 +15,15 @@ pub returns-in-Ok-clause-told : goal.returns-in-Ok-clause-told
 returns-in-Ok-clause-told g c = λ input told.
     judged_input c.judge.result input c.in-Ok.text.items (g.S.Source.left c.read_all.new.source) (g.K.Sink.took c.args.out.now) (g.K.Sink.took c.judge.new.out)
     (c.in-Ok.ensures.told input told) (rw c.deref.ensures.value at c.judge.ensures.judged)
+
+pub returns-in-Ok-clause-journaled : goal.returns-in-Ok-clause-journaled
+returns-in-Ok-clause-journaled g c = λ input told.
+    journaled_input c.judge.result input c.in-Ok.text.items (g.S.Source.left c.read_all.new.source) (g.K.Sink.took c.args.out.now) (g.K.Sink.took c.judge.new.out)
+    c.judge.new.journal (c.in-Ok.ensures.told input told) (rw c.deref.ensures.value at c.judge.ensures.judged)
+    (rw c.deref.ensures.value at c.judge.ensures.journaled)
+
+pub returns-in-Err-Failed-clause-ends_empty : goal.returns-in-Err-Failed-clause-ends_empty
+returns-in-Err-Failed-clause-ends_empty g c = none_ends_empty c.args.journal.now c.requires.empty
+
+pub returns-in-Err-Memory-clause-ends_empty : goal.returns-in-Err-Memory-clause-ends_empty
+returns-in-Err-Memory-clause-ends_empty g c = none_ends_empty c.args.journal.now c.requires.empty
