@@ -158,8 +158,8 @@ module _ (before after : Seen MatChunk MatKind) where
       }
 
   -- a content without children was registered
-  pub number_registered : (content : MatChunk) (id : Id) → HoldsNothing before → IsRegistered before after content [] (Ok id) → HoldsOne after (Held id)
-  number_registered content id none is =
+  pub content_registered : (content : MatChunk) (id : Id) → HoldsNothing before → IsRegistered before after content [] (Ok id) → HoldsOne after (Held id)
+  content_registered content id none is =
       let tree : Tree MatChunk = rooted content [] in
       held_one after (Held id) tree (ap (λ seen. seen.names) is.1 ∙ ap (λ m. map.insert m id.number (record { owner = id.owner; tree = tree })) none) (λ null. absurd (cc))
 

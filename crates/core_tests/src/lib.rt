@@ -1,4 +1,4 @@
-//! Tests of a core over the library of matrices.
+//! Tests of a core and of engines over the library of matrices, and of the text of a journal.
 #![tactic(auto)]
 
 #[cfg(test)]
