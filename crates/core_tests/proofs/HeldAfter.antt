@@ -1,5 +1,5 @@
 -- What the caller holds after each call of the tests.
-use Rattle.std.proofs.Common.{◌≡◌, ℕ, ◌+◌, ◌*◌, ◌^◌, ◌≤◌, true, cond, ◌==◌, if◌then◌else◌, false, List, [], ◌∷◌, Option, None, Some, IsSome, Ok, Err, nat_eq, refl, sym, ap, ◌∙◌, subst, arith, inl, inr, ◌⊎◌, eq-eqb, zero, suc}
+use Rattle.std.proofs.Common.{◌≡◌, ℕ, ◌*◌, ◌^◌, ◌≤◌, if◌then◌else◌, false, List, [], ◌∷◌, None, Some, IsSome, Ok, refl, sym, ap, ◌∙◌, subst, arith, inl, inr, eq-eqb}
 use Rattle.std.specs.Ordering.{nat_cmp}
 use Rattle.std.specs.FinMap as map
 use Rattle.cht_ids.specs.declared.refs.Id.{Id}
@@ -21,7 +21,7 @@ use Rattle.quad_matrix.specs.declared.kind.MatKind.{MatKind}
 use Rattle.quad_matrix.specs.declared.kind.What.TheVariants.{Assign, Trace}
 use Rattle.quad_matrix.specs.Spots.{AreSoundEntries}
 use Rattle.quad_matrix.specs.Blocks.{block_of, IsCanonical}
-use Rattle.quad_matrix.specs.Goals.{kind_of, goal_of, goal_at, IsList, IsDefined}
+use Rattle.quad_matrix.specs.Goals.{kind_of, goal_of, IsList, IsDefined}
 use Rattle.quad_matrix.specs.Matrices.{matrices}
 use Rattle.quad_matrix.proofs.ForOthers.{assign_canonical, goal_any, tree_peak, peak_of_tree}
 use Rattle.core_tests.specs.Holdings.{one_name, HoldsNothing, HoldsOne, HoldsTwo, HoldsList, HoldsMatrix, HasSmallPeak}
@@ -158,8 +158,8 @@ module _ (before after : Seen MatChunk MatKind) where
       }
 
   -- a content without children was registered
-  pub number_registered : (content : MatChunk) (id : Id) → HoldsNothing before → IsRegistered before after content [] (Ok id) → HoldsOne after (Held id)
-  number_registered content id none is =
+  pub content_registered : (content : MatChunk) (id : Id) → HoldsNothing before → IsRegistered before after content [] (Ok id) → HoldsOne after (Held id)
+  content_registered content id none is =
       let tree : Tree MatChunk = rooted content [] in
       held_one after (Held id) tree (ap (λ seen. seen.names) is.1 ∙ ap (λ m. map.insert m id.number (record { owner = id.owner; tree = tree })) none) (λ null. absurd (cc))
 

@@ -1,5 +1,5 @@
 -- What the caller of an engine of matrices holds between the calls of the tests.
-use Rattle.std.specs.Prelude.{◌≡◌, ℕ, ◌^◌, ◌≤◌, false, Option, None, Some}
+use Rattle.std.specs.Prelude.{◌≡◌, ◌^◌, ◌≤◌, false, Option, None, Some}
 use Rattle.std.specs.Ordering.{nat_cmp}
 use Rattle.std.specs.FinMap as map
 use Rattle.cht_ids.specs.declared.refs.Id.{Id}

@@ -1,6 +1,5 @@
 //! The calls of the engine on one thread: a trace, from the list of its entries to the number, and copies.
 ghost use Rattle.std.specs.Prelude.{◌≡◌, false, IfOk, OnOk, IsTrue};
-ghost use Rattle.cht_ids.specs.declared.refs.Ref.TheVariants.{Id as Held};
 ghost use Rattle.name_machine.specs.Paths.{root_content};
 ghost use Rattle.cht_engine.specs.Seen.{MayMention, tree_named};
 ghost use Rattle.cht_plain.specs.Alone.{seen_of};

@@ -1,7 +1,7 @@
 use Rattle.cht_ids.specs.declared.refs.Ref.TheVariants.{Id as Held}
 use Rattle.cht_plain.specs.Alone.{seen_of}
 use Rattle.quad_matrix.specs.Matrices.{matrices}
-use Rattle.core_tests.proofs.HeldAfter.{may_mention, assign_defined, list_still, matrix_assigned}
+use Rattle.core_tests.proofs.HeldAfter.{may_mention, list_still, matrix_assigned}
 use Rattle.core_tests.proofs.engine_calls.assign.Goals as goal
 
 pub ask-requires-clause-held : goal.ask-requires-clause-held
