@@ -1,4 +1,3 @@
-//! Tests of a core and of the engine on one thread over the library of matrices, and of the text of a journal.
 //! Tests of a core and of engines over the library of matrices, and of the text of a journal.
 #![tactic(auto)]
 
