@@ -1,4 +1,5 @@
 //! The text of a journal, which is read and written again, and the lines that are named where a text is none.
+ghost use Rattle.std.specs.Prelude.{◌≤◌, length};
 
 use cht_io::ListSink;
 use journal_text::{JournalRefused, read_journal, write_journal};
@@ -39,7 +40,9 @@ fn line_named(alloc: Global, bytes: &[u8]) -> Option<u64> {
 }
 
 // How many bytes the first lines of a text have, each with its line feed.
-fn front_of(text: &[u8], lines: u64) -> usize {
+fn front_of(text: &[u8], lines: u64) -> usize
+    ensures { result ≤ length text.now }
+{
     let mut left = lines;
     let mut at = 0;
     for byte in text {
