@@ -6,3 +6,5 @@
 mod run_calls;
 #[cfg(test)]
 mod script_calls;
+#[cfg(test)]
+mod work_calls;
