@@ -70,7 +70,8 @@ def main():
             )
 
 
-if sys.argv[1:2] == ["make"]:
-    INPUTS[int(sys.argv[2])][1](sys.argv[3])
-else:
-    main()
+if __name__ == "__main__":
+    if sys.argv[1:2] == ["make"]:
+        INPUTS[int(sys.argv[2])][1](sys.argv[3])
+    else:
+        main()
