@@ -83,7 +83,7 @@ fn the_journal_has_the_events_of_the_run(rt: HostRuntime) -> Result<(), Fail> {
     let mut finished = 0u32;
     for i in 0..18 {
         if let Some(Event::Finish { .. }) = events.get(i) {
-            finished += 1;
+            finished = finished.saturating_add(1);
         }
     }
     assert_eq!(rt; finished, 5);
