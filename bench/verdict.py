@@ -58,33 +58,31 @@ def one_place(size):
     return head + line * ((size - len(head)) // len(line)), "cht: line 6: fault 11 Repeated\n"
 
 
-def late_fault(size):
-    """Entries of all places in order, with a value that is no number in the last line: code 5 there."""
+def broken_at_its_end(size, places):
+    """Entries of these places, with a value that is no number in the last line: code 5 there."""
     parts = [f"grid 4096 leaf 32\nmarket a\n{BANNER}4096 4096 16777216\n"]
     length, count = len(parts[0]), 0
-    while length < size - 32:
-        line = f"{count // 4096 + 1} {count % 4096 + 1} 7\n"
+    for place in places:
+        if length >= size - 32:
+            break
+        line = f"{place // 4096 + 1} {place % 4096 + 1} 7\n"
         parts.append(line)
         length += len(line)
         count += 1
-    parts.append(f"{count // 4096 + 1} {count % 4096 + 1} x\n")
+    parts.append("4096 4096 x\n")
     return "".join(parts), f"cht: line {count + 5}: fault 5 Number\n"
+
+
+def late_fault(size):
+    """Entries in order, the last line broken."""
+    return broken_at_its_end(size, range(4096 * 4096))
 
 
 def late_fault_in_any_order(size):
-    """Entries of places in any order, with a value that is no number in the last line: code 5 there."""
-    order = random.Random(7)
+    """Entries in any order, the last line broken."""
     places = list(range(4096 * 4096))
-    order.shuffle(places)
-    parts = [f"grid 4096 leaf 32\nmarket a\n{BANNER}4096 4096 16777216\n"]
-    length, count = len(parts[0]), 0
-    while length < size - 32:
-        line = f"{places[count] // 4096 + 1} {places[count] % 4096 + 1} 7\n"
-        parts.append(line)
-        length += len(line)
-        count += 1
-    parts.append("1 1 x\n")
-    return "".join(parts), f"cht: line {count + 5}: fault 5 Number\n"
+    random.Random(7).shuffle(places)
+    return broken_at_its_end(size, places)
 
 
 INPUTS = [
