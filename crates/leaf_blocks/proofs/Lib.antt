@@ -1,3 +1,4 @@
 pub mod Rows
 pub mod Terms
 pub mod Squares
+pub mod Triangles

@@ -5,11 +5,12 @@
 ghost use Rattle.std.specs.Prelude.{◌≡◌, ℕ, ◌+◌, ◌*◌, ◌^◌, ◌<◌, ◌≤◌, ◌++◌, ◌↔◌, length, pos, ◌+ℤ◌, ◌*ℤ◌, unsigned_abs, All, EachIndex, IsTrue, IfOk, vec_len, vec_capacity};
 ghost use Rattle.dense_def.specs.Matrix.{tabulate, sum_below, TermsFit};
 ghost use Rattle.leaf_blocks.specs.Block.{number_at, place, EachPlace};
+ghost use Rattle.leaf_blocks.specs.Symmetric.{triangular, triangle_index};
 
 use std::alloc::{AllocError, Global};
 
 /// Adds `factor` times `other` to `row`, place by place.
-fn add_scaled(row: &mut [i128], factor: i128, other: &[i128])
+pub fn add_scaled(row: &mut [i128], factor: i128, other: &[i128])
     requires lengths { length row.old ≡ length other.now }
     requires fits { EachIndex row.old
         (λ j. unsigned_abs (number_at row.old j)
@@ -165,6 +166,29 @@ pub fn trace_of(side: usize, numbers: &[i128]) -> i128
     let mut sum = 0;
     for i in 0..side {
         sum += numbers[i * side + i];
+    }
+    sum
+}
+
+/// The index of a place on or above the diagonal, where the list has the upper triangle of a block, row after row.
+pub fn triangle_index(side: u32, row: u32, column: u32) -> usize
+    requires upper { row ≤ column }
+    requires within { column < side }
+    ensures { result ≡ triangle_index side row column }
+{
+    let (side, row, column) = (side as usize, row as usize, column as usize);
+    row * side + column - row * (row + 1) / 2
+}
+
+/// The sum of the diagonal of a symmetric block, from its upper triangle.
+pub fn triangle_trace_of(side: u32, numbers: &[i128]) -> i128
+    requires full { length numbers.now ≡ triangular side }
+    requires fits { TermsFit side (λ i. number_at numbers.now (triangle_index side i i)) }
+    ensures { result ≡ sum_below side (λ i. number_at numbers.now (triangle_index side i i)) }
+{
+    let mut sum = 0;
+    for i in 0..side {
+        sum += numbers[triangle_index(side, i, i)];
     }
     sum
 }

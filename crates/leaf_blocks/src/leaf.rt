@@ -1,6 +1,6 @@
 ghost use Rattle.std.specs.Prelude.{◌≡◌, ◌*◌, ◌^◌, ◌<◌, ◌≤◌, ◌↔◌, length, All, IsTrue, IfOk, ◌+ℤ◌, ◌*ℤ◌};
 ghost use Rattle.dense_def.specs.Matrix.{height, entry, row_by_row, plus, times, transposed, tmul_of, mult_of, trace_of, peak_of, sum_below, IsZero, SumFits, ProductFits, TmulFits, MultFits, TraceFits};
-ghost use Rattle.leaf_blocks.specs.Block.{IsSmall, EachPlace, IsBlock};
+ghost use Rattle.leaf_blocks.specs.Block.{IsSmall, EachPlace, FillsSquare, IsBlock};
 
 use crate::kernels;
 use cht_ids::{List, Memory};
@@ -176,5 +176,13 @@ impl Leaf {
             side: self.side,
             entries,
         })
+    }
+
+    /// The numbers of the block, row after row.
+    pub fn entries(&self) -> &Vec<i128>
+        ensures value { row_by_row (height self.now) (height self.now) result.now.items ≡ self.now }
+        ensures fills { FillsSquare (height self.now) result.now.items }
+    {
+        &self.entries
     }
 }

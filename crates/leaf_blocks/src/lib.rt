@@ -1,7 +1,9 @@
 //! Dense square blocks of 128-bit whole numbers, and the textbook operations on them.
 #![tactic(auto)]
 
-mod kernels;
+pub mod kernels;
 mod leaf;
+mod symmetric;
 
 pub use leaf::Leaf;
+pub use symmetric::SymLeaf;
