@@ -1,14 +1,14 @@
 -- The upper triangle of a square in a list, row after row: indices of its places, and the symmetric block that it gives.
-use Rattle.std.proofs.Common.{◌≡◌, ℕ, zero, suc, ◌+◌, ◌-◌, ◌*◌, ◌/◌, ◌^◌, ◌<◌, ◌≤◌, ◌↔◌, min, max, List, length, get_or, ℤ, pos, ◌+ℤ◌, ◌*ℤ◌, unsigned_abs, refl, sym, ap, ap₂, ◌∙◌, subst, arith, ⊎_elim}
+use Rattle.std.proofs.Common.{◌≡◌, ℕ, zero, suc, ◌+◌, ◌-◌, ◌*◌, ◌<◌, ◌≤◌, ◌↔◌, min, max, List, length, get_or, ℤ, pos, unsigned_abs, refl, sym, ap, ap₂, ◌∙◌, subst, arith, ⊎_elim}
 use Rattle.std.specs.Prelude.{All}
 use Rattle.std.proofs.lemmas.Nat.{mul-le}
 use Rattle.std.proofs.lemmas.Bool.{cases_lt}
 use Rattle.std.proofs.lemmas.List.{get_or_default, get_or_read}
-use Rattle.dense_def.specs.Matrix.{Matrix, height, entry, IsMatrix, IsSymmetric, made, sum_below, trace_of, peak_of, IsZero, TraceFits, TermsFit}
+use Rattle.dense_def.specs.Matrix.{Matrix, height, entry, IsMatrix, IsSymmetric, sum_below, trace_of, peak_of, IsZero, TraceFits, TermsFit}
 use Rattle.dense_def.proofs.Sums.{sum_below_ext, magnitudes_below_ext}
 use Rattle.dense_def.proofs.Entries.{height-made, entry_made, IsMatrix-made, made_same}
 use Rattle.dense_def.proofs.Peaks.{entry_le_peak, peak_least}
-use Rattle.leaf_blocks.specs.Block.{number_at, EachPlace, IsSmall, IsBlock}
+use Rattle.leaf_blocks.specs.Block.{number_at, EachPlace, IsSmall}
 use Rattle.leaf_blocks.specs.Symmetric.{triangular, triangle_index, EachUpper, mirrored_place, mirrored, FillsTriangle, IsSymmetricBlock}
 
 -- ---- Triangular numbers, and where rows begin

@@ -1,9 +1,9 @@
-use Rattle.std.proofs.Common.{rules, arith, FitsSigned, ap, ◌≡◌, ◌∙◌, ◌<◌}
+use Rattle.std.proofs.Common.{rules, arith, FitsSigned, ap, ◌∙◌}
 use Rattle.std.specs.Int.{w128}
 use Rattle.std.proofs.lemmas.Int.{to_z-of_z}
 use Rattle.dense_def.proofs.Totals.{total_fits, total_more}
 use Rattle.leaf_blocks.specs.Block.{number_at}
-use Rattle.leaf_blocks.specs.Symmetric.{triangular, triangle_index}
+use Rattle.leaf_blocks.specs.Symmetric.{triangle_index}
 use Rattle.leaf_blocks.proofs.Triangles.{index_within}
 use Rattle.leaf_blocks.proofs.kernels.triangle_trace_of.Goals as goal
 

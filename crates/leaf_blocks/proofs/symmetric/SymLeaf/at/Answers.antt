@@ -1,8 +1,8 @@
-use Rattle.std.proofs.Common.{rules, arith, FitsSigned, ◌≡◌, min, max, refl, ◌∙◌, ap₂, sym}
+use Rattle.std.proofs.Common.{rules, arith, FitsSigned, refl, ◌∙◌, ap₂}
 use Rattle.std.specs.Int.{w128}
 use Rattle.std.proofs.lemmas.Int.{to_z-of_z}
 use Rattle.leaf_blocks.specs.Symmetric.{triangle_index}
-use Rattle.leaf_blocks.proofs.Triangles.{mirrors, Mirrors, mirrored_within, mirrored_read, mirrored_small}
+use Rattle.leaf_blocks.proofs.Triangles.{mirrors, mirrored_within, mirrored_read, mirrored_small}
 use Rattle.leaf_blocks.proofs.symmetric.SymLeaf.at.Goals as goal
 
 pub triangle_index-requires-clause-within : goal.triangle_index-requires-clause-within

@@ -1,4 +1,4 @@
-use Rattle.std.proofs.Common.{List, ℤ, refl, sym, ap, subst, ◌∙◌}
+use Rattle.std.proofs.Common.{refl, sym, ap, subst, ◌∙◌}
 use Rattle.leaf_blocks.specs.Symmetric.{mirrored, FillsTriangle}
 use Rattle.leaf_blocks.proofs.Triangles.{mirrors}
 use Rattle.leaf_blocks.proofs.symmetric.SymLeaf.entries.Goals as goal
