@@ -1,0 +1,3 @@
+pub mod Tails
+pub mod Written
+pub mod Blocks
