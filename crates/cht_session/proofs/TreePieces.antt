@@ -39,6 +39,8 @@ content_found tree found content path given at same is = sym is ∙ at ∙ ap (c
 abbrev pub is_leaf_or_node : MatChunk → Bool
 is_leaf_or_node (chunk.Leaf m) = true
 is_leaf_or_node (chunk.Node k peak) = true
+is_leaf_or_node (chunk.SymLeaf m) = false
+is_leaf_or_node (chunk.SymNode k peak) = false
 is_leaf_or_node (chunk.Entries entries) = false
 is_leaf_or_node (chunk.Num n) = false
 

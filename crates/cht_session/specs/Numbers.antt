@@ -3,12 +3,14 @@ use Rattle.std.specs.Prelude.{ℕ, ℤ, pos}
 use Rattle.task_types.specs.Tree.{Tree, Nothing, Root}
 use Rattle.quad_matrix.specs.Chunks.{peak_in}
 use Rattle.quad_matrix.specs.declared.chunk.MatChunk.{MatChunk}
-use Rattle.quad_matrix.specs.declared.chunk.MatChunk.TheVariants.{Leaf, Node, Entries, Num}
+use Rattle.quad_matrix.specs.declared.chunk.MatChunk.TheVariants.{Leaf, Node, SymLeaf, SymNode, Entries, Num}
 
 -- the number that a content is, and 0 where it is none
 abbrev pub number_in : MatChunk → ℤ
 number_in (Leaf m) = pos 0
 number_in (Node height peak) = pos 0
+number_in (SymLeaf m) = pos 0
+number_in (SymNode height peak) = pos 0
 number_in (Entries entries) = pos 0
 number_in (Num n) = n
 

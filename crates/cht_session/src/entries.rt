@@ -85,7 +85,9 @@ fn cells_below<E: Engine<MatLib>>(
     match content.get() {
         MatChunk::Leaf(block) => leaf_cells(alloc, block, at),
         MatChunk::Node { height, .. } => node_cells(alloc, engine, ctx, id, path, at, *height),
-        // No canonical tree of a block has these.
+        // No canonical tree of a general block has these.
+        MatChunk::SymLeaf(_) => Ok(Vec::new(alloc)),
+        MatChunk::SymNode { .. } => Ok(Vec::new(alloc)),
         MatChunk::Entries(_) => Ok(Vec::new(alloc)),
         MatChunk::Num(_) => Ok(Vec::new(alloc)),
     }

@@ -15,7 +15,7 @@ use Rattle.task_types.proofs.Shown.{presences_in-shown}
 use Rattle.task_plans.specs.Plans.{are_null}
 use Rattle.quad_matrix.specs.declared.chunk.MatChunk.{MatChunk}
 use Rattle.quad_matrix.specs.declared.kind.What.{What}
-use Rattle.quad_matrix.specs.declared.kind.What.TheVariants.{Assign, Add, Mul, TMul, MulT, Transpose, Join, Trace, AddNum}
+use Rattle.quad_matrix.specs.declared.kind.What.TheVariants.{Join}
 use Rattle.quad_matrix.specs.Blocks.{block_of, IsCanonical}
 use Rattle.quad_matrix.specs.Goals.{kind_of, FitsAt, IsDefined}
 use Rattle.quad_matrix.specs.Spots.{block_of_spots}
@@ -89,20 +89,17 @@ node_at b (suc h) inputs x y z w low fits shows some =
     let most : four_peak x y z w ≤ 2 ^ 126 = omega (arith, tree_small b h x four.0, tree_small b h y four.1, tree_small b h z four.2, tree_small b h w four.3) in
     record { low = omega arith; high = low; range = record { some = omega arith; small = omega arith } }
 
+node_fits_of : (height : ℕ) (inputs : Inputs MatChunk) → (trees : List (Tree MatChunk)) → Shows inputs trees
+    → IsDefined (kind_of Join height) trees → NodeFits height inputs
+node_fits_of height inputs [] shows d = absurd d.fits
+node_fits_of height inputs (x ∷ []) shows d = absurd d.fits
+node_fits_of height inputs (x ∷ y ∷ []) shows d = absurd d.fits
+node_fits_of height inputs (x ∷ y ∷ z ∷ []) shows d = absurd d.fits
+node_fits_of height inputs (x ∷ y ∷ z ∷ w ∷ []) shows d = node_at d.leaf height inputs x y z w d.low d.fits shows
+node_fits_of height inputs (x ∷ y ∷ z ∷ w ∷ v ∷ trees) shows d = absurd d.fits
+
 -- a node over inputs of which one is there is sound
 pub node_fits : (what : What) (height : ℕ) (inputs : Inputs MatChunk) → what ≡ Join → (trees : List (Tree MatChunk)) → Shows inputs trees
     → IsDefined (kind_of what height) trees → NodeFits height inputs
-node_fits Assign height inputs e trees shows d = cc
-node_fits Mul height inputs e trees shows d = cc
-node_fits TMul height inputs e trees shows d = cc
-node_fits MulT height inputs e trees shows d = cc
-node_fits Transpose height inputs e trees shows d = cc
-node_fits Add height inputs e trees shows d = cc
-node_fits Trace height inputs e trees shows d = cc
-node_fits AddNum height inputs e trees shows d = cc
-node_fits Join height inputs e [] shows d = absurd d.fits
-node_fits Join height inputs e (x ∷ []) shows d = absurd d.fits
-node_fits Join height inputs e (x ∷ y ∷ []) shows d = absurd d.fits
-node_fits Join height inputs e (x ∷ y ∷ z ∷ []) shows d = absurd d.fits
-node_fits Join height inputs e (x ∷ y ∷ z ∷ w ∷ []) shows d = node_at d.leaf height inputs x y z w d.low d.fits shows
-node_fits Join height inputs e (x ∷ y ∷ z ∷ w ∷ v ∷ trees) shows d = absurd d.fits
+node_fits what height inputs e trees shows d =
+    node_fits_of height inputs trees shows (subst (λ (what : What). IsDefined (kind_of what height) trees) e d)

@@ -46,6 +46,8 @@ assign_executes : (b h : ℕ) (inputs : Inputs MatChunk) (x : Tree MatChunk) →
 assign_executes b h inputs Nothing low fits shows there = absurd (false≢true there)
 assign_executes b h inputs (Root (chunk.Leaf m) x0 x1 x2 x3) low fits shows there = absurd fits
 assign_executes b h inputs (Root (chunk.Node k peak) x0 x1 x2 x3) low fits shows there = absurd fits
+assign_executes b h inputs (Root (chunk.SymLeaf m) x0 x1 x2 x3) low fits shows there = absurd fits
+assign_executes b h inputs (Root (chunk.SymNode k peak) x0 x1 x2 x3) low fits shows there = absurd fits
 assign_executes b h inputs (Root (chunk.Num n) x0 x1 x2 x3) low fits shows there = absurd fits
 assign_executes b h inputs (Root (chunk.Entries e) x0 x1 x2 x3) low fits shows there =
     let x : Tree MatChunk = Root (chunk.Entries e) x0 x1 x2 x3 in
@@ -128,6 +130,8 @@ list_splits : (b h : ℕ) (x : Tree MatChunk) → suc h ≤ 16 → IsList b (suc
 list_splits b h Nothing low is = tt
 list_splits b h (Root (chunk.Leaf m) x0 x1 x2 x3) low is = absurd is
 list_splits b h (Root (chunk.Node k peak) x0 x1 x2 x3) low is = absurd is
+list_splits b h (Root (chunk.SymLeaf m) x0 x1 x2 x3) low is = absurd is
+list_splits b h (Root (chunk.SymNode k peak) x0 x1 x2 x3) low is = absurd is
 list_splits b h (Root (chunk.Num n) x0 x1 x2 x3) low is = absurd is
 list_splits b h (Root (chunk.Entries e) x0 x1 x2 x3) low is =
     record {

@@ -15,7 +15,7 @@ use Rattle.task_types.proofs.Shown.{presences_in-shown}
 use Rattle.quad_matrix.specs.declared.chunk.MatChunk.{MatChunk}
 use Rattle.quad_matrix.specs.declared.chunk.MatChunk.TheVariants.{Node}
 use Rattle.quad_matrix.specs.declared.kind.What.{What}
-use Rattle.quad_matrix.specs.declared.kind.What.TheVariants.{Assign, Add, Mul, TMul, MulT, Transpose, Join, Trace, AddNum}
+use Rattle.quad_matrix.specs.declared.kind.What.TheVariants.{Join}
 use Rattle.quad_matrix.specs.declared.kind.MatKind.{MatKind}
 use Rattle.quad_matrix.specs.Chunks.{arity_of}
 use Rattle.quad_matrix.specs.Goals.{kind_of, goal_of, FitsAt, IsDefined}
@@ -143,21 +143,20 @@ join_low : (b h : ℕ) (inputs : Inputs MatChunk) (x y z w : Tree MatChunk) → 
 join_low b zero inputs x y z w low fits shows = let high : 1 ≤ 0 = fits.0 in absurd (omega arith)
 join_low b (suc h) inputs x y z w low fits shows = join_at b h inputs x y z w low fits shows
 
+join_sound_of : (height : ℕ) (inputs : Inputs MatChunk) → (trees : List (Tree MatChunk)) → Shows inputs trees
+    → IsDefined (kind_of Join height) trees
+    → IsSound arity_of matrices (kind_of Join height) trees (join_answer height inputs)
+join_sound_of height inputs [] shows d = absurd d.fits
+join_sound_of height inputs (x ∷ []) shows d = absurd d.fits
+join_sound_of height inputs (x ∷ y ∷ []) shows d = absurd d.fits
+join_sound_of height inputs (x ∷ y ∷ z ∷ []) shows d = absurd d.fits
+join_sound_of height inputs (x ∷ y ∷ z ∷ w ∷ []) shows d = join_low d.leaf height inputs x y z w d.low d.fits shows
+join_sound_of height inputs (x ∷ y ∷ z ∷ w ∷ v ∷ trees) shows d = absurd d.fits
+
 -- what a join answers is sound
 pub join_sound : (what : What) (height : ℕ) (inputs : Inputs MatChunk) → what ≡ Join → (trees : List (Tree MatChunk)) → Shows inputs trees
     → IsDefined (kind_of what height) trees
     → IsSound arity_of matrices (kind_of what height) trees (join_answer height inputs)
-join_sound Assign height inputs e trees shows d = cc
-join_sound Mul height inputs e trees shows d = cc
-join_sound TMul height inputs e trees shows d = cc
-join_sound MulT height inputs e trees shows d = cc
-join_sound Transpose height inputs e trees shows d = cc
-join_sound Add height inputs e trees shows d = cc
-join_sound Trace height inputs e trees shows d = cc
-join_sound AddNum height inputs e trees shows d = cc
-join_sound Join height inputs e [] shows d = absurd d.fits
-join_sound Join height inputs e (x ∷ []) shows d = absurd d.fits
-join_sound Join height inputs e (x ∷ y ∷ []) shows d = absurd d.fits
-join_sound Join height inputs e (x ∷ y ∷ z ∷ []) shows d = absurd d.fits
-join_sound Join height inputs e (x ∷ y ∷ z ∷ w ∷ []) shows d = join_low d.leaf height inputs x y z w d.low d.fits shows
-join_sound Join height inputs e (x ∷ y ∷ z ∷ w ∷ v ∷ trees) shows d = absurd d.fits
+join_sound what height inputs e trees shows d =
+    subst (λ (what : What). IsSound arity_of matrices (kind_of what height) trees (join_answer height inputs)) (sym e)
+    (join_sound_of height inputs trees shows (subst (λ (what : What). IsDefined (kind_of what height) trees) e d))

@@ -108,6 +108,7 @@ fn leaf_shown(input: &View<MatChunk>) -> Option<&Leaf>
         View::Nothing => None,
         View::There { content, .. } => match content.get() {
             MatChunk::Leaf(block) => Some(block),
+            MatChunk::SymLeaf(_) | MatChunk::SymNode { .. } => None,
             MatChunk::Node { .. } | MatChunk::Entries(_) | MatChunk::Num(_) => None,
         },
     }
@@ -135,6 +136,7 @@ pub(crate) fn entries_shown(input: &View<MatChunk>) -> Option<&Entries>
         View::Nothing => None,
         View::There { content, .. } => match content.get() {
             MatChunk::Entries(entries) => Some(entries),
+            MatChunk::SymLeaf(_) | MatChunk::SymNode { .. } => None,
             MatChunk::Leaf(_) | MatChunk::Node { .. } | MatChunk::Num(_) => None,
         },
     }

@@ -31,6 +31,7 @@ fn number_shown(input: &View<MatChunk>) -> i128
         View::Nothing => 0,
         View::There { content, .. } => match content.get() {
             MatChunk::Num(n) => *n,
+            MatChunk::SymLeaf(_) | MatChunk::SymNode { .. } => 0,
             MatChunk::Leaf(_) | MatChunk::Node { .. } | MatChunk::Entries(_) => 0,
         },
     }

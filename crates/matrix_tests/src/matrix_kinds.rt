@@ -297,6 +297,12 @@ fn tell_content(text: &mut String, content: &MatChunk) -> Result<(), Memory> {
     match content {
         MatChunk::Leaf(leaf) => write!(text, "leaf {} peak {}", leaf.side(), leaf.peak())?,
         MatChunk::Node { height, peak } => write!(text, "node {height} peak {peak}")?,
+        MatChunk::SymLeaf(leaf) => {
+            write!(text, "symmetric leaf {} peak {}", leaf.side(), leaf.peak())?;
+        }
+        MatChunk::SymNode { height, peak } => {
+            write!(text, "symmetric node {height} peak {peak}")?;
+        }
         MatChunk::Entries(entries) => {
             write!(text, "entries {} {}", entries.leaf, entries.height)?;
             for spot in entries.list.as_slice() {

@@ -70,6 +70,7 @@ fn a_peak_is_the_greatest_absolute_value(rt: HostRuntime) -> Result<(), Fail> {
     let cases = [
         (leaf(&rt, [3, 0, -4, 0])?, 4, 0),
         (MatChunk::Node { height: 1, peak: 4 }, 4, 4),
+        (MatChunk::SymNode { height: 1, peak: 4 }, 4, 3),
         (least, 9223372036854775808, 0),
         (MatChunk::Num(-7), 7, 0),
     ];

@@ -35,7 +35,7 @@ pub canonical_node : (b h : ℕ) (m : Matrix) → (peak_of m ≡ 0 → ⊥) → 
 canonical_node b h m some = cond-false (peak_of m == 0) Nothing (node_of b h m) (ne_eqb (peak_of m) 0 some)
 
 -- a zero block is the zeros of its side
-zero_block : (side : ℕ) (m : Matrix) → IsMatrix m → height m ≡ side → m.columns ≡ side → peak_of m ≡ 0 → zeros side side ≡ m
+pub zero_block : (side : ℕ) (m : Matrix) → IsMatrix m → height m ≡ side → m.columns ≡ side → peak_of m ≡ 0 → zeros side side ≡ m
 zero_block side m whole tall wide flat =
     sym (zero_is_zeros m whole ((peak-zero m).1 flat) ∙ ap (λ n. zeros n m.columns) tall ∙ ap (λ n. zeros side n) wide)
 

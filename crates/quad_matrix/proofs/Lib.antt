@@ -2,6 +2,7 @@ pub mod Sides
 pub mod Canonical
 pub mod Roots
 pub mod Quadrants
+pub mod Symmetric
 pub mod Leaves
 pub mod Sums
 pub mod Products

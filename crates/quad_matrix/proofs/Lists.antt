@@ -82,6 +82,8 @@ block_of_list b h Nothing is = (nothing_is_canonical b h).sized
 block_of_list b h (Root (chunk.Entries entries) x y z w) is = block_of_sound b h entries is.0
 block_of_list b h (Root (chunk.Leaf m) x y z w) is = absurd is
 block_of_list b h (Root (chunk.Node k peak) x y z w) is = absurd is
+block_of_list b h (Root (chunk.SymLeaf m) x y z w) is = absurd is
+block_of_list b h (Root (chunk.SymNode k peak) x y z w) is = absurd is
 block_of_list b h (Root (chunk.Num n) x y z w) is = absurd is
 
 -- a list that is there stands for a block other than zero
@@ -89,6 +91,8 @@ pub list_some : (b h : ℕ) (c : MatChunk) (x y z w : Tree MatChunk) → IsList 
 list_some b h (chunk.Entries entries) x y z w is flat = sound_some b h entries is.0 flat
 list_some b h (chunk.Leaf m) x y z w is flat = is
 list_some b h (chunk.Node k peak) x y z w is flat = is
+list_some b h (chunk.SymLeaf m) x y z w is flat = is
+list_some b h (chunk.SymNode k peak) x y z w is flat = is
 list_some b h (chunk.Num n) x y z w is flat = is
 
 -- ---- The goals of all kinds

@@ -1,6 +1,6 @@
 -- The laws of quadtrees, as statements. The functions of `laws` carry each as their contract.
 use Rattle.std.specs.Prelude.{◌≡◌, ℕ, suc, ◌*◌, ◌^◌, ◌≤◌, Bool, List, [], ◌∷◌, ℤ}
-use Rattle.dense_def.specs.Matrix.{Matrix, IsMatrix, joined, completed, peak_of}
+use Rattle.dense_def.specs.Matrix.{Matrix, IsMatrix, joined, transposed, completed, peak_of, IsSymmetric}
 use Rattle.leaf_blocks.specs.Block.{IsBlock}
 use Rattle.chunk_codec.specs.Spots.{side_of}
 use Rattle.task_types.specs.Tree.{Tree, Nothing, Root, child}
@@ -12,7 +12,7 @@ use Rattle.quad_matrix.specs.declared.chunk.Entries.{Entries}
 use Rattle.quad_matrix.specs.declared.kind.What.{What}
 use Rattle.quad_matrix.specs.Chunks.{arity_of, IsSoundChunk, peak_in}
 use Rattle.quad_matrix.specs.Spots.{AreSoundEntries}
-use Rattle.quad_matrix.specs.Blocks.{block_of, number_of, canonical, number_tree, IsCanonical, IsNumber}
+use Rattle.quad_matrix.specs.Blocks.{block_of, number_of, canonical, canonical_symmetric, number_tree, IsCanonical, IsCanonicalSymmetric, IsNumber}
 use Rattle.quad_matrix.specs.Goals.{kind_of, goal_at, goal_of, FitsAt, IsOutput}
 use Rattle.quad_matrix.specs.Products.{Turned, product_what, product_of, inner_size, InnerSizesAgree}
 use Rattle.quad_matrix.specs.Portions.{portions_of, TakeMirrored}
@@ -52,6 +52,48 @@ ChildrenAreQuadrants =
 abbrev pub RootHasPeak : Type 0
 RootHasPeak =
     (b h : ℕ) (content : MatChunk) (x y z w : Tree MatChunk) → IsCanonical b h (Root content x y z w)
+    → peak_in content ≡ peak_of (block_of b h (Root content x y z w))
+
+-- ---- Canonical symmetric trees
+
+-- the canonical symmetric tree of a symmetric block stands for the block
+abbrev pub SymmetricStands : Type 0
+SymmetricStands =
+    (b h : ℕ) (m : Matrix) → IsBlock (side_of b h) m → IsSymmetric m → block_of b h (canonical_symmetric b h m) ≡ m
+
+-- and is canonical
+abbrev pub SymmetricIsSo : Type 0
+SymmetricIsSo =
+    (b h : ℕ) (m : Matrix) → IsBlock (side_of b h) m → IsSymmetric m → IsCanonicalSymmetric b h (canonical_symmetric b h m)
+
+-- canonical symmetric trees of one block are one
+abbrev pub SymmetricIsOnly : Type 0
+SymmetricIsOnly =
+    (b h : ℕ) (one other : Tree MatChunk) → IsCanonicalSymmetric b h one → IsCanonicalSymmetric b h other
+    → block_of b h one ≡ block_of b h other → one ≡ other
+
+-- nothing is canonical in this form too
+abbrev pub NothingIsSymmetric : Type 0
+NothingIsSymmetric = (b h : ℕ) → IsCanonicalSymmetric b h Nothing
+
+-- the children on the diagonal are canonical symmetric trees, the one between them is a canonical tree, and there is no fourth one
+abbrev pub SymmetricChildren : Type 0
+SymmetricChildren =
+    (b h : ℕ) (tree : Tree MatChunk) → IsCanonicalSymmetric b (suc h) tree
+    → IsCanonicalSymmetric b h (child tree 0) × IsCanonical b h (child tree 1) × IsCanonicalSymmetric b h (child tree 2)
+    × (child tree 3 ≡ Nothing)
+
+-- their blocks are the quadrants of its block, of which the lower left one is the transpose of the upper right one
+abbrev pub SymmetricQuadrants : Type 0
+SymmetricQuadrants =
+    (b h : ℕ) (tree : Tree MatChunk) → IsCanonicalSymmetric b (suc h) tree
+    → block_of b (suc h) tree
+    ≡ joined (block_of b h (child tree 0)) (block_of b h (child tree 1)) (transposed (block_of b h (child tree 1))) (block_of b h (child tree 2))
+
+-- the peak in the root of a canonical symmetric tree is the peak of its block
+abbrev pub SymmetricRootHasPeak : Type 0
+SymmetricRootHasPeak =
+    (b h : ℕ) (content : MatChunk) (x y z w : Tree MatChunk) → IsCanonicalSymmetric b h (Root content x y z w)
     → peak_in content ≡ peak_of (block_of b h (Root content x y z w))
 
 -- ---- Numbers

@@ -4,7 +4,7 @@ ghost use Rattle.quad_matrix.specs.Chunks.{arity_of, few_children_of, IsSoundChu
 
 use cht_ids::List;
 use chunk_codec::Spot;
-use leaf_blocks::Leaf;
+use leaf_blocks::{Leaf, SymLeaf};
 use task_types::Payload;
 
 /// A square block as the list of its entries that are not zero, row by row and within a row by rising column. Its side is
@@ -46,6 +46,16 @@ pub enum MatChunk {
         /// The greatest absolute value of a number of the block.
         peak: u128,
     },
+    /// A symmetric leaf block, without children.
+    SymLeaf(SymLeaf),
+    /// A symmetric block of three quadrants: upper left and lower right, which are symmetric, with the upper right one between them. The
+    /// lower left one is the transpose of the upper right one.
+    SymNode {
+        /// How many levels stand below, from 1 to 16.
+        height: u32,
+        /// The greatest absolute value of a number of the block.
+        peak: u128,
+    },
     /// A block as a list of entries, without children.
     Entries(Entries),
     /// A number other than 0, without children.
@@ -61,6 +71,8 @@ impl MatChunk {
         match self {
             MatChunk::Leaf(leaf) => leaf.peak(),
             MatChunk::Node { peak, .. } => *peak,
+            MatChunk::SymLeaf(leaf) => leaf.peak(),
+            MatChunk::SymNode { peak, .. } => *peak,
             MatChunk::Entries(entries) => entries.peak(),
             MatChunk::Num(number) => number.unsigned_abs(),
         }
@@ -77,7 +89,9 @@ impl Payload for MatChunk {
     fn arity(&self) -> u32 {
         match self {
             MatChunk::Node { .. } => 4,
-            MatChunk::Leaf(_) | MatChunk::Entries(_) | MatChunk::Num(_) => 0,
+            MatChunk::SymNode { .. } => 3,
+            MatChunk::Leaf(_) | MatChunk::SymLeaf(_) => 0,
+            MatChunk::Entries(_) | MatChunk::Num(_) => 0,
         }
     }
 }

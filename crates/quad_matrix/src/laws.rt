@@ -1,7 +1,7 @@
 //! The laws of quadtrees. Each function does nothing: its contract is the law, which `specs/Laws.antt` states, and a proof above cites
 //! the lemma of `proofs/ForOthers.antt` behind it.
 
-ghost use Rattle.quad_matrix.specs.Laws.{CanonicalStands, CanonicalIsSo, CanonicalIsOnly, NothingIsCanonical, ChildrenAreCanonical, ChildrenAreQuadrants, RootHasPeak, NumberStands, NumberIsOnly, GoalsAreCanonical, GoalsHaveNoSide, GoalsHaveFewInputs, ProductFitsByPeaks, ProductStands, WorksAddUp, PortionsAreSound};
+ghost use Rattle.quad_matrix.specs.Laws.{CanonicalStands, CanonicalIsSo, CanonicalIsOnly, NothingIsCanonical, ChildrenAreCanonical, ChildrenAreQuadrants, RootHasPeak, SymmetricStands, SymmetricIsSo, SymmetricIsOnly, NothingIsSymmetric, SymmetricChildren, SymmetricQuadrants, SymmetricRootHasPeak, NumberStands, NumberIsOnly, GoalsAreCanonical, GoalsHaveNoSide, GoalsHaveFewInputs, ProductFitsByPeaks, ProductStands, WorksAddUp, PortionsAreSound};
 
 /// The canonical tree of a block stands for it and is the only one.
 pub fn canonical_trees()
@@ -16,6 +16,21 @@ pub fn canonical_children()
     ensures children { ChildrenAreCanonical }
     ensures quadrants { ChildrenAreQuadrants }
     ensures peak { RootHasPeak }
+{}
+
+/// The canonical symmetric tree of a symmetric block stands for it and is the only one.
+pub fn symmetric_trees()
+    ensures stands { SymmetricStands }
+    ensures canonical { SymmetricIsSo }
+    ensures only { SymmetricIsOnly }
+    ensures nothing { NothingIsSymmetric }
+{}
+
+/// The children of a canonical symmetric tree are the canonical trees of its quadrants, each of its form, and its root has its peak.
+pub fn symmetric_children()
+    ensures children { SymmetricChildren }
+    ensures quadrants { SymmetricQuadrants }
+    ensures peak { SymmetricRootHasPeak }
 {}
 
 /// The tree of a number stands for it and is the only one.

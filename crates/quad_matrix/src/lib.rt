@@ -13,5 +13,6 @@ pub use chunk_codec::Spot;
 pub use entries::{leaf_block, portions};
 pub use kind::{MatKind, What};
 pub use laws::{
-    canonical_children, canonical_trees, goals, number_trees, product_goals, sound_portions, works,
+    canonical_children, canonical_trees, goals, number_trees, product_goals, sound_portions,
+    symmetric_children, symmetric_trees, works,
 };

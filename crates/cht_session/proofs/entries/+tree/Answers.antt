@@ -46,6 +46,18 @@ cells_below-returns-in-Node-clause-listed g t c =
     IfOk-weaker c.node_cells.result (λ cells. AreCellsFor c.in-Node.height c.args.at (tree_reached (g.E.Engine.seen c.args.engine.now) c.args.id c.args.path.now.items) cells.items) (λ cells. AreCellsAt c.args.at (tree_reached (g.E.Engine.seen c.args.engine.now) c.args.id c.args.path.now.items) cells.items)
     (λ cells are. cells_for_each c.args.at (tree_reached (g.E.Engine.seen c.args.engine.now) c.args.id c.args.path.now.items) c.in-Node.height c.in-Node.peak cells.items e are) listed
 
+pub cells_below-returns-in-SymLeaf-clause-listed : goal.cells_below-returns-in-SymLeaf-clause-listed
+cells_below-returns-in-SymLeaf-clause-listed g t c =
+    let e = content_found (tree_named (g.E.Engine.seen c.args.engine.now) (Held c.args.id)) c.in_ok-content.field-0 (Some (chunk.SymLeaf c.in-SymLeaf.field-0)) c.args.path.now.items c.as_slice.result.now c.in_ok-content.ensures.found c.as_slice.ensures.value
+    (c.in-Some.is ∙ ap (λ x. Some x) (sym c.get.ensures ∙ c.in-SymLeaf.is)) in
+    none_there (length c.args.path.now.items) c.args.at (tree_reached (g.E.Engine.seen c.args.engine.now) c.args.id c.args.path.now.items) (chunk.SymLeaf c.in-SymLeaf.field-0) c.new-in-SymLeaf.result.items c.requires.piece e refl
+
+pub cells_below-returns-in-SymNode-clause-listed : goal.cells_below-returns-in-SymNode-clause-listed
+cells_below-returns-in-SymNode-clause-listed g t c =
+    let e = content_found (tree_named (g.E.Engine.seen c.args.engine.now) (Held c.args.id)) c.in_ok-content.field-0 (Some (chunk.SymNode c.in-SymNode.height c.in-SymNode.peak)) c.args.path.now.items c.as_slice.result.now c.in_ok-content.ensures.found c.as_slice.ensures.value
+    (c.in-Some.is ∙ ap (λ x. Some x) (sym c.get.ensures ∙ c.in-SymNode.is)) in
+    none_there (length c.args.path.now.items) c.args.at (tree_reached (g.E.Engine.seen c.args.engine.now) c.args.id c.args.path.now.items) (chunk.SymNode c.in-SymNode.height c.in-SymNode.peak) c.new-in-SymNode.result.items c.requires.piece e refl
+
 pub cells_below-returns-in-Entries-clause-listed : goal.cells_below-returns-in-Entries-clause-listed
 cells_below-returns-in-Entries-clause-listed g t c =
     let e = content_found (tree_named (g.E.Engine.seen c.args.engine.now) (Held c.args.id)) c.in_ok-content.field-0 (Some (chunk.Entries c.in-Entries.field-0)) c.args.path.now.items c.as_slice.result.now c.in_ok-content.ensures.found c.as_slice.ensures.value
