@@ -200,7 +200,9 @@ pub fn peak_of(numbers: &[i128]) -> u128
 {
     let mut peak = 0;
     for x in numbers {
-        peak = x.unsigned_abs().max(peak);
+        if *x != 0 {
+            peak = x.unsigned_abs().max(peak);
+        }
     }
     peak
 }
