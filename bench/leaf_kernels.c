@@ -72,6 +72,78 @@ static i128 *dot(const i128 *a, const i128 *b, long n) {
     return out;
 }
 
+/* Symmetric blocks are their upper triangles, row after row: row i has its columns from i on. */
+static long row_start(long n, long i) {
+    return i * n + i - i * (i + 1) / 2;
+}
+
+static i128 *full(const i128 *s, const i128 *b, long n) {
+    (void)b;
+    i128 *out = malloc(sizeof(i128) * n * n);
+    for (long i = 0; i < n; i++)
+        for (long j = i; j < n; j++)
+            out[i * n + j] = out[j * n + i] = s[row_start(n, i) + j - i];
+    return out;
+}
+
+static i128 *upper_product(const i128 *a, const i128 *b, long n) {
+    i128 *out = malloc(sizeof(i128) * (n * (n + 1) / 2));
+    memset(out, 0, sizeof(i128) * (n * (n + 1) / 2));
+    for (long i = 0; i < n; i++)
+        for (long k = 0; k < n; k++)
+            if (a[i * n + k] != 0)
+                add_scaled(out + row_start(n, i), a[i * n + k], b + k * n + i, n - i);
+    return out;
+}
+
+static i128 *sym_square(const i128 *s, const i128 *b, long n) {
+    i128 *whole = full(s, b, n);
+    i128 *out = upper_product(whole, whole, n);
+    free(whole);
+    return out;
+}
+
+static i128 *rank_rows(const i128 *x, const i128 *b, long n) {
+    (void)b;
+    i128 *turned = malloc(sizeof(i128) * n * n);
+    transpose_into(turned, x, n);
+    i128 *out = upper_product(x, turned, n);
+    free(turned);
+    return out;
+}
+
+static i128 *rank_columns(const i128 *x, const i128 *b, long n) {
+    (void)b;
+    i128 *out = malloc(sizeof(i128) * (n * (n + 1) / 2));
+    memset(out, 0, sizeof(i128) * (n * (n + 1) / 2));
+    for (long k = 0; k < n; k++)
+        for (long i = 0; i < n; i++)
+            if (x[k * n + i] != 0)
+                add_scaled(out + row_start(n, i), x[k * n + i], x + k * n + i, n - i);
+    return out;
+}
+
+static i128 *sym_mul(const i128 *s, const i128 *x, long n) {
+    i128 *whole = full(s, x, n);
+    i128 *out = mul(whole, x, n);
+    free(whole);
+    return out;
+}
+
+static i128 *mul_sym(const i128 *s, const i128 *x, long n) {
+    i128 *whole = full(s, x, n);
+    i128 *out = mul(x, whole, n);
+    free(whole);
+    return out;
+}
+
+static i128 *sym_add(const i128 *restrict s, const i128 *restrict t, long n) {
+    i128 *restrict out = malloc(sizeof(i128) * (n * (n + 1) / 2));
+    for (long i = 0; i < n * (n + 1) / 2; i++)
+        out[i] = s[i] + t[i];
+    return out;
+}
+
 static i128 *add(const i128 *restrict a, const i128 *restrict b, long n) {
     i128 *restrict out = malloc(sizeof(i128) * n * n);
     for (long i = 0; i < n * n; i++)
@@ -86,10 +158,10 @@ static i128 *transpose(const i128 *a, const i128 *b, long n) {
     return out;
 }
 
-/* A block of random numbers between -1000000 and 1000000; with one_in above 1 all but one in so many are 0. */
-static i128 *random_block(long n, uint64_t one_in, uint64_t state) {
-    i128 *out = malloc(sizeof(i128) * n * n);
-    for (long p = 0; p < n * n; p++) {
+/* Random numbers between -1000000 and 1000000; with one_in above 1 all but one in so many are 0. */
+static i128 *random_numbers(long count, uint64_t one_in, uint64_t state) {
+    i128 *out = malloc(sizeof(i128) * count);
+    for (long p = 0; p < count; p++) {
         state ^= state << 13;
         state ^= state >> 7;
         state ^= state << 17;
@@ -123,21 +195,27 @@ static uint64_t time_of(i128 *(*call)(const i128 *, const i128 *, long), const i
 }
 
 int main(void) {
-    const struct { const char *name; i128 *(*call)(const i128 *, const i128 *, long); } calls[] = {
-        {"mul", mul}, {"tmul", tmul}, {"mult", mult}, {"dot", dot}, {"add", add}, {"transpose", transpose}};
+    /* The operands of a call: two blocks, 0 and 1, or the upper triangles 2 and 3. */
+    const struct { const char *name; i128 *(*call)(const i128 *, const i128 *, long); int first, second; } calls[] = {
+        {"mul", mul, 0, 1}, {"tmul", tmul, 0, 1}, {"mult", mult, 0, 1}, {"dot", dot, 0, 1}, {"add", add, 0, 1},
+        {"transpose", transpose, 0, 1}, {"sym_square", sym_square, 2, 2}, {"rank", rank_rows, 1, 1}, {"trank", rank_columns, 1, 1},
+        {"sym_mul", sym_mul, 2, 1}, {"mul_sym", mul_sym, 2, 1}, {"sym_add", sym_add, 2, 3}, {"full", full, 2, 2}};
     const struct { long side; int calls; } sizes[] = {{16, 1000}, {32, 200}, {64, 30}};
     const struct { const char *name; uint64_t one_in; } fills[] = {{"dense", 1}, {"sparse", 20}};
     for (int s = 0; s < 3; s++)
         for (int f = 0; f < 2; f++) {
             long n = sizes[s].side;
-            i128 *a = random_block(n, fills[f].one_in, 88172645463325252u);
-            i128 *b = random_block(n, fills[f].one_in, 123456789123u);
+            long triangle = n * (n + 1) / 2;
+            i128 *blocks[] = {
+                random_numbers(n * n, fills[f].one_in, 88172645463325252u), random_numbers(n * n, fills[f].one_in, 123456789123u),
+                random_numbers(triangle, fills[f].one_in, 88172645463325252u), random_numbers(triangle, fills[f].one_in, 123456789123u)};
             printf("%ld %s", n, fills[f].name);
-            for (int c = 0; c < 6; c++)
-                printf(" %s %llu", calls[c].name, (unsigned long long)time_of(calls[c].call, a, b, n, sizes[s].calls));
+            for (int c = 0; c < 13; c++)
+                printf(" %s %llu", calls[c].name,
+                    (unsigned long long)time_of(calls[c].call, blocks[calls[c].first], blocks[calls[c].second], n, sizes[s].calls));
             printf("\n");
-            free(a);
-            free(b);
+            for (int b = 0; b < 4; b++)
+                free(blocks[b]);
         }
     return 0;
 }
