@@ -7,6 +7,8 @@ pub mod Leaves
 pub mod Sums
 pub mod Products
 pub mod Transposes
+pub mod SymmetricJoins
+pub mod SymmetricSums
 pub mod Numbers
 pub mod AnySide
 pub mod Lists
@@ -16,8 +18,10 @@ pub mod Names
 pub mod DraftWorks
 pub mod AddWorks
 pub mod ProductWorks
+pub mod SymmetricWorks
 pub mod AssignParts
 pub mod AssignWorks
+pub mod SymmetricAssignWorks
 pub mod WorkLaws
 pub mod QuadrantSides
 pub mod Order
