@@ -10,6 +10,7 @@ pub mod Transposes
 pub mod SymmetricJoins
 pub mod SymmetricSums
 pub mod Numbers
+pub mod SymmetricChildren
 pub mod AnySide
 pub mod Lists
 pub mod Injective
@@ -27,7 +28,9 @@ pub mod QuadrantSides
 pub mod Order
 pub mod PartBlocks
 pub mod Written
+pub mod TriangleWritten
 pub mod ListParts
+pub mod SymmetricParts
 pub mod SoundPortions
 pub mod OnlyTrees
 pub mod ForOthers

@@ -10,13 +10,19 @@ use Rattle.quad_matrix.specs.declared.kind.What.TheVariants.{SAdd, Full}
 use Rattle.quad_matrix.specs.Blocks.{block_of, canonical_symmetric, IsCanonical, IsCanonicalSymmetric}
 use Rattle.quad_matrix.specs.Goals.{goal_at, FitsAt}
 use Rattle.quad_matrix.proofs.Canonical.{canonical_zero, canonical_of_block, peak-zeros}
-use Rattle.quad_matrix.proofs.Symmetric.{symmetric_of_block, nothing_is_symmetric}
+use Rattle.quad_matrix.proofs.Symmetric.{block_of_symmetric, symmetric_of_block, nothing_is_symmetric}
 use Rattle.quad_matrix.proofs.Sums.{IsBlock-plus}
 
 -- the goal of a sum of symmetric blocks is canonical
 pub symmetric_add_canonical : (b h : ℕ) (x y : Tree MatChunk) → FitsAt b SAdd h (x ∷ y ∷ []) → IsCanonicalSymmetric b h (goal_at b SAdd h (x ∷ y ∷ []))
 symmetric_add_canonical b h x y fits =
     symmetric_of_block b h (plus (block_of b h x) (block_of b h y)) (IsBlock-plus (side_of b h) (block_of b h x) (block_of b h y) fits.0.sized fits.1.sized fits.2)
+    (IsSymmetric-plus (block_of b h x) (block_of b h y) fits.0.symmetric fits.1.symmetric (fits.0.sized.tall ∙ sym fits.1.sized.tall))
+
+-- and stands for the sum
+pub block_of_symmetric_add : (b h : ℕ) (x y : Tree MatChunk) → FitsAt b SAdd h (x ∷ y ∷ []) → block_of b h (goal_at b SAdd h (x ∷ y ∷ [])) ≡ plus (block_of b h x) (block_of b h y)
+block_of_symmetric_add b h x y fits =
+    block_of_symmetric b h (plus (block_of b h x) (block_of b h y)) (IsBlock-plus (side_of b h) (block_of b h x) (block_of b h y) fits.0.sized fits.1.sized fits.2)
     (IsSymmetric-plus (block_of b h x) (block_of b h y) fits.0.symmetric fits.1.symmetric (fits.0.sized.tall ∙ sym fits.1.sized.tall))
 
 -- a symmetric tree and nothing add up to the tree
