@@ -1,6 +1,5 @@
 pub mod BesideRows
 pub mod CellRows
-pub mod Served
 pub mod SquareJoins
 pub mod TreePieces
 pub mod ListedEntries

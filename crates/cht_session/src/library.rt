@@ -1,7 +1,10 @@
+ghost use Rattle.std.specs.Prelude.{IfOk};
+ghost use Rattle.task_types.specs.Sound.{HasGoal, IsSoundFor};
+ghost use Rattle.quad_matrix.specs.Chunks.{arity_of};
 ghost use Rattle.quad_matrix.specs.Matrices.{matrices};
 
 use cht_ids::Memory;
-use matrix_tasks::run_general;
+use matrix_tasks::{is_general, run_general};
 use quad_matrix::{MatChunk, MatKind};
 use std::alloc::Global;
 use task_types::{Inputs, Library, Outcome};
@@ -22,21 +25,34 @@ impl Library for MatLib {
 
     ghost adds_up = { matrix_works_add_up };
 
-    #[tactic(auto, using(crate::proofs::Served::all_general))]
     fn execute(
         alloc: Global,
         kind: MatKind,
         inputs: &Inputs<MatChunk>,
     ) -> Result<Outcome<MatChunk, MatKind>, Memory> {
-        run_general(alloc, kind, inputs)
+        served(alloc, kind, inputs)
     }
 
-    #[tactic(auto, using(crate::proofs::Served::all_general))]
     fn fallback(
         alloc: Global,
         kind: MatKind,
         inputs: &Inputs<MatChunk>,
     ) -> Result<Outcome<MatChunk, MatKind>, Memory> {
-        run_general(alloc, kind, inputs)
+        served(alloc, kind, inputs)
     }
+}
+
+// Executes one task. No statement asks for a kind of symmetric matrices yet.
+fn served(
+    alloc: Global,
+    kind: MatKind,
+    inputs: &Inputs<MatChunk>,
+) -> Result<Outcome<MatChunk, MatKind>, Memory>
+    requires { HasGoal matrices kind inputs.now }
+    ensures { IfOk result (IsSoundFor arity_of matrices kind inputs.now) }
+{
+    if !is_general(kind.what) {
+        return Err(Memory);
+    }
+    run_general(alloc, kind, inputs)
 }

@@ -17,7 +17,7 @@ use Rattle.quad_matrix.specs.declared.chunk.MatChunk.TheVariants.{Leaf, Node, Nu
 use Rattle.quad_matrix.specs.declared.chunk.MatChunk.TheVariants as chunk
 use Rattle.quad_matrix.specs.declared.chunk.Entries.{Entries}
 use Rattle.quad_matrix.specs.declared.kind.What.{What}
-use Rattle.quad_matrix.specs.declared.kind.What.TheVariants.{Assign, Add, Mul, TMul, MulT, Transpose, Join, Trace, AddNum}
+use Rattle.quad_matrix.specs.declared.kind.What.TheVariants.{Assign, Add, Mul, TMul, MulT, Transpose, Join, Trace, AddNum, SAssign, SAdd, Full, SJoin, STrace}
 use Rattle.quad_matrix.specs.declared.kind.MatKind.{MatKind}
 use Rattle.quad_matrix.specs.Spots.{AreSoundEntries, block_of_spots}
 use Rattle.quad_matrix.specs.Chunks.{peak_in}
@@ -37,6 +37,11 @@ is_general Transpose = true
 is_general Join = true
 is_general Trace = true
 is_general AddNum = true
+is_general SAssign = false
+is_general SAdd = false
+is_general Full = false
+is_general SJoin = false
+is_general STrace = false
 
 -- ---- Outcomes
 
@@ -78,7 +83,7 @@ join_answer height inputs =
 abbrev pub NodeFits : ℕ → Inputs MatChunk → Type 0
 NodeFits height inputs = are_null (join_places (presences_in inputs)) ≡ false → IsSoundNode height (greatest_peak inputs)
 
--- where an input is null: of a sum the other input, else null
+-- where an input is null: of a sum the other input, else null; joins and symmetric kinds are not asked for it
 abbrev pub null_place : What → List Presence → Place
 null_place Assign known = Null
 null_place Add known = other_place known
@@ -89,6 +94,11 @@ null_place Transpose known = Null
 null_place Join known = Null
 null_place Trace known = Null
 null_place AddNum known = other_place known
+null_place SAssign known = Null
+null_place SAdd known = Null
+null_place Full known = Null
+null_place SJoin known = Null
+null_place STrace known = Null
 
 -- the leaf that an input shows, if it shows one
 abbrev pub leaf_shown : View MatChunk → Option Matrix

@@ -22,6 +22,17 @@ use std::alloc::Global;
 use task_plans::given;
 use task_types::{Inputs, Outcome};
 
+/// Whether a kind is one of general matrices and numbers, which `run_general` serves.
+pub fn is_general(what: What) -> bool
+    ensures { result ≡ is_general what }
+{
+    match what {
+        What::Assign | What::Add | What::Mul | What::TMul | What::MulT => true,
+        What::Transpose | What::Join | What::Trace | What::AddNum => true,
+        What::SAssign | What::SAdd | What::Full | What::SJoin | What::STrace => false,
+    }
+}
+
 /// Executes one task on general matrices and numbers: what is shown of its inputs may have null ones among them. The answer may be
 /// `Memory`, and then nothing has changed.
 pub fn run_general(
@@ -67,5 +78,7 @@ fn at_height_0(
         What::Trace => leaves::trace(alloc, inputs),
         What::AddNum => numbers::add(alloc, inputs),
         What::Join => nodes::join(alloc, kind.height, inputs),
+        // Kinds of symmetric matrices are not served here.
+        What::SAssign | What::SAdd | What::Full | What::SJoin | What::STrace => Err(Memory),
     }
 }

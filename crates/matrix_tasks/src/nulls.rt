@@ -15,5 +15,7 @@ pub(crate) fn null_place(what: What, inputs: &Inputs<MatChunk>) -> Place
         What::Add | What::AddNum => other_place(inputs),
         What::Assign | What::Join | What::Trace => Place::Null,
         What::Mul | What::TMul | What::MulT | What::Transpose => Place::Null,
+        // Kinds of symmetric matrices are not served here.
+        What::SAssign | What::SAdd | What::Full | What::SJoin | What::STrace => Place::Null,
     }
 }

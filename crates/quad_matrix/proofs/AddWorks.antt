@@ -1,21 +1,18 @@
--- The work of a sum and of a trace adds up.
-use Rattle.std.proofs.Common.{◌≡◌, ℕ, suc, ◌+◌, Bool, true, false, cond, not, ◌&&◌, ◌||◌, List, [], ◌∷◌, ◌++◌, sum, refl, sym, ap, ap₂, ◌∙◌, arith, ⊎_elim}
+-- The work of a sum adds up.
+use Rattle.std.proofs.Common.{◌≡◌, ℕ, suc, ◌+◌, Bool, true, false, cond, not, ◌&&◌, ◌||◌, List, [], ◌∷◌, ◌++◌, sum, refl, sym, ap, ◌∙◌, arith, ⊎_elim}
 use Rattle.std.proofs.lemmas.Bool.{cases_Bool, or_parts, true≢false}
 use Rattle.std.proofs.lemmas.List.Sums.{sum_by-append}
 use Rattle.task_types.specs.Tree.{Tree, Root, is_there, tree_at, child}
 use Rattle.task_types.specs.Presence.{Absent, presence_of}
 use Rattle.quad_matrix.specs.declared.chunk.MatChunk.{MatChunk}
-use Rattle.quad_matrix.specs.declared.kind.What.TheVariants.{Add, Join, Trace, AddNum}
-use Rattle.quad_matrix.specs.declared.kind.What.{What}
+use Rattle.quad_matrix.specs.declared.kind.What.TheVariants.{Add, Join}
 use Rattle.quad_matrix.specs.declared.kind.MatKind.{MatKind}
 use Rattle.quad_matrix.specs.Goals.{kind_of, kind_at}
 use Rattle.quad_matrix.specs.Matrices.{matrices}
-use Rattle.task_plans.specs.declared.plan.Ending.TheVariants.{Joined, Single}
-use Rattle.task_plans.specs.declared.plan.Term.{Term}
-use Rattle.task_plans.specs.Plans.{Draft, no_draft, with_either, are_null, ended, planned_shape, term_on, term_task, with_pair}
+use Rattle.task_plans.specs.declared.plan.Ending.TheVariants.{Joined}
+use Rattle.task_plans.specs.Plans.{Draft, no_draft, with_either, are_null, ended, planned_shape}
 use Rattle.quad_matrix.specs.Plans.{plan_of}
-use Rattle.quad_matrix.specs.Works.{asked, work_of, add_work, trace_work, pair_works}
-use Rattle.task_types.specs.declared.outcome.Place.TheVariants.{Child}
+use Rattle.quad_matrix.specs.Works.{asked, work_of, add_work}
 use Rattle.quad_matrix.proofs.Sides.{suc-sub_one}
 use Rattle.task_plans.proofs.ForOthers.{either_work, either_null, ended_work}
 use Rattle.quad_matrix.proofs.DraftWorks.{total, draft_work}
@@ -29,12 +26,12 @@ null_any false false false true = refl
 null_any false false false false = refl
 
 -- where none of two is there nothing is asked for both
-asked_none : (a b : Bool) (work : ℕ) → (a || b) ≡ false → sum (asked (a && b) work) ≡ 0
+pub asked_none : (a b : Bool) (work : ℕ) → (a || b) ≡ false → sum (asked (a && b) work) ≡ 0
 asked_none false b work e = refl
 asked_none true b work e = absurd (true≢false e)
 
 -- the sum of two lists joined
-sum-append : (k l : List ℕ) → sum (k ++ l) ≡ sum k + sum l
+pub sum-append : (k l : List ℕ) → sum (k ++ l) ≡ sum k + sum l
 sum-append k l = sum_by-append (λ x. x) k l
 
 -- the sum of five
@@ -105,33 +102,3 @@ add_works h k l a b c d p q r s chunks =
     ap (λ n. 1 + n)
     (sym (ap (λ low. total trees chunks (ended (kind_at (suc h)) (Joined Join) (parts_of low (is_there a) (is_there b) (is_there c) (is_there d) (is_there p) (is_there q) (is_there r) (is_there s)))) (suc-sub_one h)
     ∙ add_total trees chunks h (suc h) (is_there a) (is_there b) (is_there c) (is_there d) (is_there p) (is_there q) (is_there r) (is_there s)))
-
--- ---- Traces
-
--- a test and true
-and-true : (b : Bool) → (b && true) ≡ b
-and-true true = refl
-and-true false = refl
-
--- the traces of the diagonal children
-abbrev upper_term : Term What
-upper_term = term_on Trace (Child 0 0 ∷ [])
-
-abbrev lower_term : Term What
-lower_term = term_on Trace (Child 0 3 ∷ [])
-
--- the works of the one part of a trace
-trace_total : (trees chunks : List (Tree MatChunk)) (low height : ℕ) (a d : Bool) → total trees chunks (ended (kind_at height) Single (with_pair no_draft (term_task (kind_at low) upper_term) (term_task (kind_at low) lower_term) (kind_at low AddNum) a d)) ≡ sum (pair_works a d (work_of (kind_of Trace low) (child (tree_at trees 0) 0 ∷ [])) (work_of (kind_of Trace low) (child (tree_at trees 0) 3 ∷ [])) 1)
-trace_total trees chunks low height false false = refl
-trace_total trees chunks low height true false = refl
-trace_total trees chunks low height false true = refl
-trace_total trees chunks low height true true = refl
-
--- the work of a trace of a tree that is there is one more than the works of its tasks
-pub trace_works : (h : ℕ) (k : MatChunk) (a b c d : Tree MatChunk) (chunks : List (Tree MatChunk)) → trace_work (suc h) (Root k a b c d) ≡ 1 + total (Root k a b c d ∷ []) chunks (planned_shape kind_at (suc h) (plan_of Trace) (presence_of (Root k a b c d) ∷ []) Absent)
-trace_works h k a b c d chunks =
-    let trees = Root k a b c d ∷ [] in
-    ap (λ n. 1 + n)
-    (sym (ap (λ low. total trees chunks (ended (kind_at (suc h)) Single (with_pair no_draft (term_task (kind_at low) upper_term) (term_task (kind_at low) lower_term) (kind_at low AddNum) (is_there a && true) (is_there d && true)))) (suc-sub_one h)
-    ∙ ap₂ (λ u v. total trees chunks (ended (kind_at (suc h)) Single (with_pair no_draft (term_task (kind_at h) upper_term) (term_task (kind_at h) lower_term) (kind_at h AddNum) u v))) (and-true (is_there a)) (and-true (is_there d))
-    ∙ trace_total trees chunks h (suc h) (is_there a) (is_there d)))

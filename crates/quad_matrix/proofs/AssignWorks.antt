@@ -38,7 +38,7 @@ use Rattle.quad_matrix.proofs.AssignParts.{assign_shape, assign_parts, part_tree
 -- ---- One part
 
 -- a block other than zero has a number
-some_has_number : (m : Matrix) → (peak_of m ≡ 0 → ⊥) → has_number m ≡ true
+pub some_has_number : (m : Matrix) → (peak_of m ≡ 0 → ⊥) → has_number m ≡ true
 some_has_number m some = ap not (ne_eqb (peak_of m) 0 some)
 
 -- a part's entries stand for the quadrant whose canonical tree is the goal of its assignment
@@ -46,19 +46,19 @@ listed_work : (b h : ℕ) (m : Matrix) (k : MatChunk) (x y z w : Tree MatChunk) 
 listed_work b h m k x y z w whole tall wide same d =
     let t = Root k x y z w in
     let n = block_of d.leaf h t in
-    let sized = block_of_list d.leaf h t d.fits in
-    let some : peak_of n ≡ 0 → ⊥ = list_some d.leaf h k x y z w d.fits in
+    let sized = block_of_list d.leaf h false t d.fits in
+    let some : peak_of n ≡ 0 → ⊥ = list_some d.leaf h false k x y z w d.fits in
     let back : canonical d.leaf h n ≡ canonical b h m = sym (same ∙ goal_any d.leaf Assign h (t ∷ []) d.fits) in
     let leaf : d.leaf ≡ b = canonical_leaf_same d.leaf b h n m sized.whole sized.tall sized.wide whole tall wide some back in
     let list : IsList b h false t = subst (λ c. IsList c h false t) leaf d.fits in
-    let sized_b = block_of_list b h t list in
+    let sized_b = block_of_list b h false t list in
     let here : canonical b h m ≡ canonical b h (block_of b h t) = sym (subst (λ c. canonical c h (block_of c h t) ≡ canonical b h m) leaf back) in
     let one : m ≡ block_of b h t = canonical_injective b h m (block_of b h t) whole tall wide sized_b.whole sized_b.tall sized_b.wide here in
     ap (λ test. asked test (assign_work b h m)) (some_has_number m (canonical_some_same d.leaf b h n m some back))
-    ∙ ap (λ v. v ∷ []) (ap (assign_work b h) one ∙ ap (λ c. assign_work c h (block_of c h t)) (sym (leaf_of_list b h t list refl)))
+    ∙ ap (λ v. v ∷ []) (ap (assign_work b h) one ∙ ap (λ c. assign_work c h (block_of c h t)) (sym (leaf_of_list b h false t list refl)))
 
 -- a part that is asked for has the quadrant's work, and one that is not has a zero quadrant
-part_work : (b h : ℕ) (m : Matrix) (a : Bool) (t : Tree MatChunk) → IsMatrix m → height m ≡ side_of b h → m.columns ≡ side_of b h → canonical b h m ≡ part_tree h a t → (a ≡ true → IsDefined (kind_of Assign h) (t ∷ [])) → (a ≡ true → is_there t ≡ true) → asked (has_number m) (assign_work b h m) ≡ asked a (work_of (kind_of Assign h) (t ∷ []))
+pub part_work : (b h : ℕ) (m : Matrix) (a : Bool) (t : Tree MatChunk) → IsMatrix m → height m ≡ side_of b h → m.columns ≡ side_of b h → canonical b h m ≡ part_tree Assign h a t → (a ≡ true → IsDefined (kind_of Assign h) (t ∷ [])) → (a ≡ true → is_there t ≡ true) → asked (has_number m) (assign_work b h m) ≡ asked a (work_of (kind_of Assign h) (t ∷ []))
 part_work b h m false t whole tall wide same defined there =
     ap (λ test. asked test (assign_work b h m)) (sym (is_there_canonical b h m) ∙ ap is_there same)
 part_work b h m true Nothing whole tall wide same defined there = absurd (true≢false (sym (there refl)))
@@ -68,7 +68,7 @@ part_work b h m true (Root k x y z w) whole tall wide same defined there =
 -- ---- Lists
 
 -- what holds of two lists joined holds of both
-all_split : {X : Type 0} (P : X → Type 0) (xs ys : List X) → AllByRecursion P (xs ++ ys) → AllByRecursion P xs × AllByRecursion P ys
+pub all_split : {X : Type 0} (P : X → Type 0) (xs ys : List X) → AllByRecursion P (xs ++ ys) → AllByRecursion P xs × AllByRecursion P ys
 all_split P [] ys all = (tt, all)
 all_split P (x ∷ xs) ys all = let rest = all_split P xs ys all.1 in ((all.0, rest.0), rest.1)
 
@@ -78,25 +78,25 @@ all_join P [] ys one other = other
 all_join P (x ∷ xs) ys one other = (one.0, all_join P xs ys one.1 other)
 
 -- what holds of an item that is asked for
-all_asked : {X : Type 0} (P : X → Type 0) (a : Bool) (x : X) → AllByRecursion P (asked a x) → a ≡ true → P x
+pub all_asked : {X : Type 0} (P : X → Type 0) (a : Bool) (x : X) → AllByRecursion P (asked a x) → a ≡ true → P x
 all_asked P true x all e = all.0
 all_asked P false x all e = absurd (true≢false (sym e))
 
 -- the trees of new chunks are there
-new_there : (trees before : List (Tree MatChunk)) (chunks : List (NewChunk MatChunk)) → AllByRecursion (λ t. is_there t ≡ true) before → AllByRecursion (λ t. is_there t ≡ true) (in_order (chunk_tree trees) before chunks)
+pub new_there : (trees before : List (Tree MatChunk)) (chunks : List (NewChunk MatChunk)) → AllByRecursion (λ t. is_there t ≡ true) before → AllByRecursion (λ t. is_there t ≡ true) (in_order (chunk_tree trees) before chunks)
 new_there trees before [] all = all
 new_there trees before (chunk ∷ chunks) all =
     new_there trees (before ++ chunk_tree trees before chunk ∷ []) chunks
     (all_join (λ t. is_there t ≡ true) before (chunk_tree trees before chunk ∷ []) all (refl, tt))
 
 -- each tree of a list of trees that are there is there
-there_at : (ts : List (Tree MatChunk)) (i : ℕ) → AllByRecursion (λ t. is_there t ≡ true) ts → i < length ts → is_there (tree_at ts i) ≡ true
+pub there_at : (ts : List (Tree MatChunk)) (i : ℕ) → AllByRecursion (λ t. is_there t ≡ true) ts → i < length ts → is_there (tree_at ts i) ≡ true
 there_at [] i all h = absurd (omega arith)
 there_at (t ∷ ts) zero all h = all.0
 there_at (t ∷ ts) (suc i) all h = there_at ts i all.1 (omega arith)
 
 -- the work of a call that is asked for
-work_asked : (a : Bool) (call : Call MatChunk MatKind) → sum_by call_work (asked a call) ≡ sum (asked a (call_work call))
+pub work_asked : (a : Bool) (call : Call MatChunk MatKind) → sum_by call_work (asked a call) ≡ sum (asked a (call_work call))
 work_asked false call = refl
 work_asked true call = refl
 
@@ -146,23 +146,23 @@ module _ (b h : ℕ) (k : MatChunk) (x y z w : Tree MatChunk) (list : IsList b (
 
   -- the calls of the parts, and of their join
   abbrev first_calls : List (Call MatChunk MatKind)
-  first_calls = asked p (part_call h first)
+  first_calls = asked p (part_call Assign h first)
 
   abbrev second_calls : List (Call MatChunk MatKind)
-  second_calls = asked q (part_call h second)
+  second_calls = asked q (part_call Assign h second)
 
   abbrev third_calls : List (Call MatChunk MatKind)
-  third_calls = asked r (part_call h third)
+  third_calls = asked r (part_call Assign h third)
 
   abbrev fourth_calls : List (Call MatChunk MatKind)
-  fourth_calls = asked s (part_call h fourth)
+  fourth_calls = asked s (part_call Assign h fourth)
 
   abbrev join_calls : List (Call MatChunk MatKind)
   join_calls = asked any (join_call chunks h (suc h) p q r s)
 
   -- the goal is the canonical tree of a block that is not zero
   not_flat : peak_of m ≡ 0 → ⊥
-  not_flat = list_some b (suc h) k x y z w list
+  not_flat = list_some b (suc h) false k x y z w list
 
   result : canonical b (suc h) m ≡ cond any (goal_of (kind_of Join (suc h)) (part_trees chunks h p q r s)) Nothing
   result =
@@ -201,17 +201,17 @@ module _ (b h : ℕ) (k : MatChunk) (x y z w : Tree MatChunk) (list : IsList b (
   first_two = (all_split is_defined _ (third_calls) first_three).0
 
   defined_first : p ≡ true → IsDefined (kind_of Assign h) (first ∷ [])
-  defined_first = all_asked is_defined p (part_call h first) (all_split is_defined _ (second_calls) first_two).0
+  defined_first = all_asked is_defined p (part_call Assign h first) (all_split is_defined _ (second_calls) first_two).0
 
   defined_second : q ≡ true → IsDefined (kind_of Assign h) (second ∷ [])
-  defined_second = all_asked is_defined q (part_call h second) (all_split is_defined (first_calls) _ first_two).1
+  defined_second = all_asked is_defined q (part_call Assign h second) (all_split is_defined (first_calls) _ first_two).1
 
   defined_third : r ≡ true → IsDefined (kind_of Assign h) (third ∷ [])
-  defined_third = all_asked is_defined r (part_call h third) (all_split is_defined (first_calls ++ second_calls) _ first_three).1
+  defined_third = all_asked is_defined r (part_call Assign h third) (all_split is_defined (first_calls ++ second_calls) _ first_three).1
 
   defined_fourth : s ≡ true → IsDefined (kind_of Assign h) (fourth ∷ [])
   defined_fourth =
-      all_asked is_defined s (part_call h fourth)
+      all_asked is_defined s (part_call Assign h fourth)
       (all_split is_defined (first_calls ++ second_calls ++ third_calls) _ (all_split is_defined _ (join_calls) defined).0).1
 
   -- the new chunks are there
@@ -224,13 +224,13 @@ module _ (b h : ℕ) (k : MatChunk) (x y z w : Tree MatChunk) (list : IsList b (
       there_at chunks i (new_there trees [] outcome.chunks tt) (omega (arith, length-in_order (chunk_tree trees) [] outcome.chunks))
 
   -- the canonical trees of the quadrants are the trees of the parts
-  quadrants : (canonical b h (upper_left (side_of b h) m) ≡ part_tree h p first) × (canonical b h (upper_right (side_of b h) m) ≡ part_tree h q second) × (canonical b h (lower_left (side_of b h) m) ≡ part_tree h r third) × (canonical b h (lower_right (side_of b h) m) ≡ part_tree h s fourth)
+  quadrants : (canonical b h (upper_left (side_of b h) m) ≡ part_tree Assign h p first) × (canonical b h (upper_right (side_of b h) m) ≡ part_tree Assign h q second) × (canonical b h (lower_left (side_of b h) m) ≡ part_tree Assign h r third) × (canonical b h (lower_right (side_of b h) m) ≡ part_tree Assign h s fourth)
   quadrants =
       let c = defined_join.leaf in
-      let t0 = part_tree h p first in
-      let t1 = part_tree h q second in
-      let t2 = part_tree h r third in
-      let t3 = part_tree h s fourth in
+      let t0 = part_tree Assign h p first in
+      let t1 = part_tree Assign h q second in
+      let t2 = part_tree Assign h r third in
+      let t3 = part_tree Assign h s fourth in
       let fit = join_fits c h t0 t1 t2 t3 defined_join.fits in
       let joins : canonical b (suc h) m ≡ canonical c (suc h) (join_of c h t0 t1 t2 t3) =
       result
@@ -260,7 +260,7 @@ module _ (b h : ℕ) (k : MatChunk) (x y z w : Tree MatChunk) (list : IsList b (
       ap (λ n. 1 + n)
       (works_same (asked (has_number (upper_left half m)) (assign_work b h (upper_left half m))) (asked (has_number (upper_right half m)) (assign_work b h (upper_right half m))) (asked (has_number (lower_left half m)) (assign_work b h (lower_left half m))) (asked (has_number (lower_right half m)) (assign_work b h (lower_right half m))) (asked (has_number m) 1)
       first_calls second_calls third_calls fourth_calls join_calls
-      (ap sum one ∙ sym (work_asked p (part_call h first))) (ap sum two ∙ sym (work_asked q (part_call h second)))
-      (ap sum three ∙ sym (work_asked r (part_call h third))) (ap sum four ∙ sym (work_asked s (part_call h fourth)))
+      (ap sum one ∙ sym (work_asked p (part_call Assign h first))) (ap sum two ∙ sym (work_asked q (part_call Assign h second)))
+      (ap sum three ∙ sym (work_asked r (part_call Assign h third))) (ap sum four ∙ sym (work_asked s (part_call Assign h fourth)))
       (ap (λ test. sum (asked test 1)) last ∙ sym (work_asked any (join_call chunks h (suc h) p q r s)))
       ∙ sym (ap (sum_by call_work) (ap (λ (a : Shape MatKind). calls_of trees chunks a.tasks) shape ∙ parts.calls)))

@@ -1,5 +1,5 @@
 -- The side of the leaves of trees.
-use Rattle.std.proofs.Common.{◌≡◌, ℕ, zero, suc, ◌<◌, ◌≤◌, max, true, false, ◌==◌, unsigned_abs, refl, sym, ap, ◌∙◌, arith, ⊎_elim, pos_of_ne-zero, le_of_eq, ◌⊎◌, inl, inr, List, [], ◌∷◌}
+use Rattle.std.proofs.Common.{◌≡◌, ℕ, zero, suc, ◌<◌, ◌≤◌, max, Bool, true, false, ◌==◌, unsigned_abs, refl, sym, ap, ◌∙◌, arith, ⊎_elim, pos_of_ne-zero, le_of_eq, ◌⊎◌, inl, inr, List, [], ◌∷◌}
 use Rattle.std.specs.List.{AllByRecursion}
 use Rattle.std.proofs.lemmas.Bool.{cases_eq, cases_lt, true≢false, cond_both}
 use Rattle.dense_def.specs.Matrix.{Matrix, height, IsMatrix, joined, peak_of, IsSymmetric}
@@ -104,43 +104,47 @@ leaf_of_canonical b h t is there =
     ap leaf_of is.same
     ∙ leaf_of_full b h (block_of b h t) is.sized.whole is.sized.tall is.sized.wide (root_some b h t is there)
 
--- a canonical tree has no greater leaves
-pub leaf_le : (b h : ℕ) (t : Tree MatChunk) → IsCanonical b h t → leaf_of t ≤ b
-leaf_le b h Nothing is = omega arith
-leaf_le b h (Root c x y z w) is = le_of_eq (leaf_of_canonical b h (Root c x y z w) is refl)
-
 -- so it is with a canonical symmetric tree
 pub leaf_of_symmetric : (b h : ℕ) (t : Tree MatChunk) → IsCanonicalSymmetric b h t → is_there t ≡ true → leaf_of t ≡ b
 leaf_of_symmetric b h t is there =
     ap leaf_of is.same ∙ leaf_of_symmetric_full b h (block_of b h t) is.sized is.symmetric (symmetric_root_some b h t is there)
 
--- nor have some
-pub leaf_in_le : (b h : ℕ) (trees : List (Tree MatChunk)) → AllByRecursion (IsCanonical b h) trees → leaf_in trees ≤ b
-leaf_in_le b h [] all = omega arith
-leaf_in_le b h (t ∷ trees) all = omega (arith, leaf_le b h t all.0, leaf_in_le b h trees all.1)
+-- the leaves of a tree, if it has some, have that side
+abbrev pub HasLeaves : ℕ → Tree MatChunk → Type 0
+HasLeaves b tree = is_there tree ≡ true → leaf_of tree ≡ b
 
--- the leaves of some canonical trees, of which one may be there
-pub leaf_in_canonical : (b h : ℕ) (trees : List (Tree MatChunk)) → AllByRecursion (IsCanonical b h) trees → (leaf_in trees ≡ b) ⊎ AllByRecursion (λ (t : Tree MatChunk). t ≡ Nothing) trees
-leaf_in_canonical b h [] all = inr tt
-leaf_in_canonical b h (Nothing ∷ trees) all =
+-- then it has no greater leaves
+leaf_le : (b : ℕ) (t : Tree MatChunk) → HasLeaves b t → leaf_of t ≤ b
+leaf_le b Nothing has = omega arith
+leaf_le b (Root c x y z w) has = le_of_eq (has refl)
+
+-- nor have some
+leaf_in_le : (b : ℕ) (trees : List (Tree MatChunk)) → AllByRecursion (HasLeaves b) trees → leaf_in trees ≤ b
+leaf_in_le b [] all = omega arith
+leaf_in_le b (t ∷ trees) all = omega (arith, leaf_le b t all.0, leaf_in_le b trees all.1)
+
+-- the leaves of some trees, of which one may be there
+pub leaf_in_known : (b : ℕ) (trees : List (Tree MatChunk)) → AllByRecursion (HasLeaves b) trees → (leaf_in trees ≡ b) ⊎ AllByRecursion (λ (t : Tree MatChunk). t ≡ Nothing) trees
+leaf_in_known b [] all = inr tt
+leaf_in_known b (Nothing ∷ trees) all =
     ⊎_elim (λ (e : leaf_in trees ≡ b). inl (let same : max 0 (leaf_in trees) ≡ b = omega arith in same))
     (λ (none : AllByRecursion (λ (t : Tree MatChunk). t ≡ Nothing) trees). inr (refl, none))
-    (leaf_in_canonical b h trees all.1)
-leaf_in_canonical b h (Root c x y z w ∷ trees) all =
-    let one : leaf_of (Root c x y z w) ≡ b = leaf_of_canonical b h (Root c x y z w) all.0 refl in
-    let rest = leaf_in_le b h trees all.1 in
+    (leaf_in_known b trees all.1)
+leaf_in_known b (Root c x y z w ∷ trees) all =
+    let one : leaf_of (Root c x y z w) ≡ b = all.0 refl in
+    let rest = leaf_in_le b trees all.1 in
     let same : max (leaf_of (Root c x y z w)) (leaf_in trees) ≡ b = omega arith in
     inl same
 
 -- the leaves of a sound list
-pub leaf_of_list : (b h : ℕ) (t : Tree MatChunk) → IsList b h false t → is_there t ≡ true → leaf_of t ≡ b
-leaf_of_list b h Nothing is there = absurd (true≢false (sym there))
-leaf_of_list b h (Root (Entries entries) x y z w) is there = is.0.leaf
-leaf_of_list b h (Root (Leaf m) x y z w) is there = absurd is
-leaf_of_list b h (Root (Node k peak) x y z w) is there = absurd is
-leaf_of_list b h (Root (SymLeaf m) x y z w) is there = absurd is
-leaf_of_list b h (Root (SymNode k peak) x y z w) is there = absurd is
-leaf_of_list b h (Root (Num n) x y z w) is there = absurd is
+pub leaf_of_list : (b h : ℕ) (mirrored : Bool) (t : Tree MatChunk) → IsList b h mirrored t → is_there t ≡ true → leaf_of t ≡ b
+leaf_of_list b h mirrored Nothing is there = absurd (true≢false (sym there))
+leaf_of_list b h mirrored (Root (Entries entries) x y z w) is there = is.0.leaf
+leaf_of_list b h mirrored (Root (Leaf m) x y z w) is there = absurd is
+leaf_of_list b h mirrored (Root (Node k peak) x y z w) is there = absurd is
+leaf_of_list b h mirrored (Root (SymLeaf m) x y z w) is there = absurd is
+leaf_of_list b h mirrored (Root (SymNode k peak) x y z w) is there = absurd is
+leaf_of_list b h mirrored (Root (Num n) x y z w) is there = absurd is
 
 -- a number has no leaves
 pub leaf_of_number : (t : Tree MatChunk) → IsNumber t → leaf_of t ≡ 0

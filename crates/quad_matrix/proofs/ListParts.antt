@@ -73,7 +73,7 @@ module _ (b h : ℕ) (whole : Entries) (sound : AreSoundEntries b (suc h) false 
   -- another part has not
   pub full_part_is_not_zero : (q : ℕ) → 1 ≤ length (part_in b h whole q) → peak_of (block_of_spots (side_of b h) (part_in b h whole q)) ≡ 0 → ⊥
   full_part_is_not_zero q some =
-      sound_some b h (portion_of whole (part_in b h whole q)) (portion_sound q some)
+      sound_some b h false (portion_of whole (part_in b h whole q)) (portion_sound q some)
 
   -- so a part has an entry exactly where its block has a number other than 0
   pub has_spot_is : (q : ℕ) → has_spot (part_in b h whole q) ≡ not (peak_of (block_of_spots (side_of b h) (part_in b h whole q)) == 0)
@@ -102,7 +102,7 @@ module _ (b h : ℕ) (whole : Entries) (sound : AreSoundEntries b (suc h) false 
       ⊎_elim
       (λ (none : part_in b h whole q ≡ []). subst (IsCanonical b h) (sym (empty_part q none)) (nothing_is_canonical b h))
       (λ (some : 1 ≤ length (part_in b h whole q)). canonical_of_block b h (block_of_spots (side_of b h) (part_in b h whole q))
-      (block_of_sound b h (portion_of whole (part_in b h whole q)) (portion_sound q some)))
+      (block_of_sound b h false (portion_of whole (part_in b h whole q)) (portion_sound q some)))
       (empty_or_not (part_in b h whole q))
 
   -- the trees of the parts fit a join
@@ -147,4 +147,4 @@ module _ (b h : ℕ) (whole : Entries) (sound : AreSoundEntries b (suc h) false 
       sym (ap₂ ◌||◌ (ap₂ ◌||◌ (ap₂ ◌||◌ (part_there b h whole sound 0) (part_there b h whole sound 1)) (part_there b h whole sound 2)) (part_there b h whole sound 3))
       ∙ sym (join_there b h (part_tree b h whole 0) (part_tree b h whole 1) (part_tree b h whole 2) (part_tree b h whole 3) (part_canonical b h whole sound 0) (part_canonical b h whole sound 1) (part_canonical b h whole sound 2) (part_canonical b h whole sound 3))
       ∙ ap is_there (sym (join_goal b h (part_tree b h whole 0) (part_tree b h whole 1) (part_tree b h whole 2) (part_tree b h whole 3)) ∙ sym (assign_on_parts b h whole sound.symmetric))
-      ∙ is_there_some b (suc h) (block_listed whole.symmetric (side_of b (suc h)) whole.list) (sound_some b (suc h) whole sound)
+      ∙ is_there_some b (suc h) (block_listed whole.symmetric (side_of b (suc h)) whole.list) (sound_some b (suc h) false whole sound)

@@ -3,7 +3,7 @@ use Rattle.std.proofs.Common.{◌≡◌, ℕ, suc, ◌+◌, ◌^◌, ◌≤◌, 
 use Rattle.std.proofs.lemmas.Bool.{cases_eq, cond-true, cond-false}
 use Rattle.std.proofs.lemmas.Int.{ints}
 use Rattle.std.proofs.Math.IntN.{+ℤ_idl, +ℤ_idr}
-use Rattle.dense_def.specs.Matrix.{height, entry, trace_of, TraceFits}
+use Rattle.dense_def.specs.Matrix.{Matrix, height, entry, trace_of, TraceFits}
 use Rattle.dense_def.proofs.Sums.{magnitudes_bound, unsigned_abs-add}
 use Rattle.dense_def.proofs.Quadrants.{trace-joined}
 use Rattle.dense_def.proofs.Zeros.{trace-zeros}
@@ -60,11 +60,10 @@ root_of_number c x y z w is =
 
 -- ---- Goals that are numbers
 
--- the goal of a trace
-pub trace_is_number : (b h : ℕ) (x : Tree MatChunk) → FitsAt b Trace h (x ∷ []) → IsNumber (goal_at b Trace h (x ∷ []))
-trace_is_number b h x fits =
-    let m = block_of b h x in
-    number_is_number (trace_of m) (omega (arith, fits.1, magnitudes_bound (height m) (λ i. entry m i i)))
+-- the tree of a trace whose terms fit
+pub trace_is_number : (m : Matrix) → TraceFits m → IsNumber (number_tree (trace_of m))
+trace_is_number m fits =
+    number_is_number (trace_of m) (omega (arith, fits, magnitudes_bound (height m) (λ i. entry m i i)))
 
 -- the goal of a sum of numbers
 pub addnum_is_number : (b h : ℕ) (x y : Tree MatChunk) → FitsAt b AddNum h (x ∷ y ∷ []) → IsNumber (goal_at b AddNum h (x ∷ y ∷ []))
@@ -108,8 +107,8 @@ module _ (b h : ℕ) (x : Tree MatChunk) (fits : FitsAt b Trace (suc h) (x ∷ [
   pub trace_fits : FitsAt b AddNum 0 (goal_at b Trace h (child x 0 ∷ []) ∷ goal_at b Trace h (child x 3 ∷ []) ∷ [])
   trace_fits = (
     refl,
-    trace_is_number b h (child x 0) trace_first,
-    trace_is_number b h (child x 3) trace_last,
+    trace_is_number (block_of b h (child x 0)) trace_first.1,
+    trace_is_number (block_of b h (child x 3)) trace_last.1,
     rw (number_of_tree (trace_of (block_of b h (child x 0))), number_of_tree (trace_of (block_of b h (child x 3)))) parts.2,
   )
 

@@ -30,7 +30,7 @@ child_known (Root content a b c d) (suc (suc (suc zero))) = refl
 child_known (Root content a b c d) (suc (suc (suc (suc q)))) = refl
 
 -- a test and true
-and-true : (b : Bool) → (b && true) ≡ b
+pub and-true : (b : Bool) → (b && true) ≡ b
 and-true true = refl
 and-true false = refl
 

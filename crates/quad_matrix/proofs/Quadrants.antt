@@ -136,7 +136,7 @@ join_peak b h x y z w =
     max (max (peak_of (block_of b h x)) (peak_of (block_of b h y))) (max (peak_of (block_of b h z)) (peak_of (block_of b h w)))
 
 -- roots with equal parts are equal
-same_root : (c d : MatChunk) (x x' y y' z z' w w' : Tree MatChunk) → c ≡ d → x ≡ x' → y ≡ y' → z ≡ z' → w ≡ w' → Root c x y z w ≡ Root d x' y' z' w'
+pub same_root : (c d : MatChunk) (x x' y y' z z' w w' : Tree MatChunk) → c ≡ d → x ≡ x' → y ≡ y' → z ≡ z' → w ≡ w' → Root c x y z w ≡ Root d x' y' z' w'
 same_root c d x x' y y' z z' w w' ec ex ey ez ew = cc
 
 -- the join of nothing four times is nothing

@@ -21,7 +21,7 @@ use Rattle.quad_matrix.proofs.Quadrants.{IsBlock-quadrants, zeros_join}
 -- ---- The quadrants of a symmetric matrix
 
 -- a matrix that has the number of each place at the place with row and column exchanged, is symmetric
-symmetric_by_entries : (n : ℕ) (m : Matrix) → IsMatrix m → height m ≡ n → m.columns ≡ n → ((i j : ℕ) → i < n → j < n → entry m j i ≡ entry m i j) → IsSymmetric m
+pub symmetric_by_entries : (n : ℕ) (m : Matrix) → IsMatrix m → height m ≡ n → m.columns ≡ n → ((i j : ℕ) → i < n → j < n → entry m j i ≡ entry m i j) → IsSymmetric m
 symmetric_by_entries n m whole tall wide same =
     same_matrix (transposed m) m (IsMatrix-made m.columns (height m) (λ i j. entry m j i)) whole (height-transposed m ∙ wide ∙ sym tall) (tall ∙ sym wide)
     (λ i j p q.
@@ -143,6 +143,10 @@ is_there_symmetric b h m =
     (λ (flat : peak_of m ≡ 0). rw (symmetric_zero b h m flat, eq-eqb (peak_of m) 0 flat) refl)
     (λ (some : peak_of m ≡ 0 → ⊥). there_if_some b h m some)
     (cases_eq (peak_of m) 0)
+
+-- so that of a block other than zero is there
+pub is_there_symmetric_some : (b h : ℕ) (m : Matrix) → (peak_of m ≡ 0 → ⊥) → is_there (canonical_symmetric b h m) ≡ true
+is_there_symmetric_some b h m some = is_there_symmetric b h m ∙ ap not (ne_eqb (peak_of m) 0 some)
 
 -- ---- Roots
 

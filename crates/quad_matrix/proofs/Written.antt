@@ -38,7 +38,7 @@ spot_value-push (first ∷ spots) spot i j none =
     swapped false b z apart = refl
 
 -- where places rise, no entry names the place of one behind it
-earlier_elsewhere : (spots : List Spot) (k : ℕ) (d : Spot) → IsTrue (spots_rise spots) → k < length spots → All (λ other. is_at (get_or spots k d).row (get_or spots k d).column other ≡ false) (take k spots)
+pub earlier_elsewhere : (spots : List Spot) (k : ℕ) (d : Spot) → IsTrue (spots_rise spots) → k < length spots → All (λ other. is_at (get_or spots k d).row (get_or spots k d).column other ≡ false) (take k spots)
 earlier_elsewhere spots k d rising h = λ p e below.
     let earlier : p < k = omega (arith, length-take {A = Spot}) in
     rw (get_or-take k spots p e earlier) (elsewhere (get_or spots p e) (get_or spots k d) (rw (get_or_default spots k e d h) at (pairs_from_rise spots rising p k e earlier h)))

@@ -1,14 +1,14 @@
 -- What each kind of task asks, as a function of dense values.
-use Rattle.std.specs.Prelude.{◌≡◌, ℕ, ◌+◌, ◌-◌, ◌*◌, ◌^◌, ◌≤◌, Bool, false, List, [], ◌∷◌, ◌+ℤ◌, unsigned_abs}
+use Rattle.std.specs.Prelude.{◌≡◌, ℕ, ◌+◌, ◌-◌, ◌*◌, ◌^◌, ◌≤◌, Bool, true, false, List, [], ◌∷◌, ◌+ℤ◌, unsigned_abs}
 use Rattle.dense_def.specs.Matrix.{plus, times, tmul_of, mult_of, transposed, joined, trace_of, SumFits, ProductFits, TmulFits, MultFits, TraceFits}
 use Rattle.task_types.specs.Tree.{Tree, Nothing, Root}
 use Rattle.quad_matrix.specs.declared.chunk.MatChunk.{MatChunk}
 use Rattle.quad_matrix.specs.declared.chunk.MatChunk.TheVariants as chunk
 use Rattle.quad_matrix.specs.declared.kind.What.{What}
-use Rattle.quad_matrix.specs.declared.kind.What.TheVariants.{Assign, Add, Mul, TMul, MulT, Transpose, Join, Trace, AddNum}
+use Rattle.quad_matrix.specs.declared.kind.What.TheVariants.{Assign, Add, Mul, TMul, MulT, Transpose, Join, Trace, AddNum, SAssign, SAdd, Full, SJoin, STrace}
 use Rattle.quad_matrix.specs.declared.kind.MatKind.{MatKind}
 use Rattle.quad_matrix.specs.Spots.{AreSoundEntries}
-use Rattle.quad_matrix.specs.Blocks.{block_of, number_of, canonical, number_tree, IsCanonical, IsNumber, leaf_in}
+use Rattle.quad_matrix.specs.Blocks.{block_of, number_of, canonical, canonical_symmetric, number_tree, IsCanonical, IsCanonicalSymmetric, IsNumber, leaf_in}
 
 -- a kind
 abbrev pub kind_of : What → ℕ → MatKind
@@ -25,6 +25,11 @@ kind_at height Transpose = kind_of Transpose height
 kind_at height Join = kind_of Join height
 kind_at height Trace = kind_of Trace height
 kind_at height AddNum = kind_of AddNum 0
+kind_at height SAssign = kind_of SAssign height
+kind_at height SAdd = kind_of SAdd height
+kind_at height Full = kind_of Full height
+kind_at height SJoin = kind_of SJoin height
+kind_at height STrace = kind_of STrace height
 
 -- ---- Goals
 
@@ -40,6 +45,12 @@ goal_at b Join h (x ∷ y ∷ z ∷ w ∷ []) =
     canonical b h (joined (block_of b (h - 1) x) (block_of b (h - 1) y) (block_of b (h - 1) z) (block_of b (h - 1) w))
 goal_at b Trace h (x ∷ []) = number_tree (trace_of (block_of b h x))
 goal_at b AddNum h (x ∷ y ∷ []) = number_tree (number_of x +ℤ number_of y)
+goal_at b SAssign h (x ∷ []) = canonical_symmetric b h (block_of b h x)
+goal_at b SAdd h (x ∷ y ∷ []) = canonical_symmetric b h (plus (block_of b h x) (block_of b h y))
+goal_at b Full h (x ∷ []) = canonical b h (block_of b h x)
+goal_at b STrace h (x ∷ []) = number_tree (trace_of (block_of b h x))
+goal_at b SJoin h (x ∷ y ∷ z ∷ []) =
+    canonical_symmetric b h (joined (block_of b (h - 1) x) (block_of b (h - 1) y) (transposed (block_of b (h - 1) y)) (block_of b (h - 1) z))
 goal_at b Assign h trees = Nothing
 goal_at b Add h trees = Nothing
 goal_at b Mul h trees = Nothing
@@ -49,6 +60,11 @@ goal_at b Transpose h trees = Nothing
 goal_at b Join h trees = Nothing
 goal_at b Trace h trees = Nothing
 goal_at b AddNum h trees = Nothing
+goal_at b SAssign h trees = Nothing
+goal_at b SAdd h trees = Nothing
+goal_at b Full h trees = Nothing
+goal_at b SJoin h trees = Nothing
+goal_at b STrace h trees = Nothing
 
 -- the goal of a kind on trees
 abbrev pub goal_of : MatKind → List (Tree MatChunk) → Tree MatChunk
@@ -77,6 +93,13 @@ FitsAt b Join h (x ∷ y ∷ z ∷ w ∷ []) =
 FitsAt b Trace h (x ∷ []) = IsCanonical b h x × TraceFits (block_of b h x)
 FitsAt b AddNum h (x ∷ y ∷ []) =
     (h ≡ 0) × IsNumber x × IsNumber y × (unsigned_abs (number_of x) + unsigned_abs (number_of y) ≤ 2 ^ 126)
+FitsAt b SAssign h (x ∷ []) = IsList b h true x
+FitsAt b SAdd h (x ∷ y ∷ []) =
+    IsCanonicalSymmetric b h x × IsCanonicalSymmetric b h y × SumFits (block_of b h x) (block_of b h y)
+FitsAt b Full h (x ∷ []) = IsCanonicalSymmetric b h x
+FitsAt b STrace h (x ∷ []) = IsCanonicalSymmetric b h x × TraceFits (block_of b h x)
+FitsAt b SJoin h (x ∷ y ∷ z ∷ []) =
+    (1 ≤ h) × IsCanonicalSymmetric b (h - 1) x × IsCanonical b (h - 1) y × IsCanonicalSymmetric b (h - 1) z
 FitsAt b Assign h trees = ⊥
 FitsAt b Add h trees = ⊥
 FitsAt b Mul h trees = ⊥
@@ -86,6 +109,11 @@ FitsAt b Transpose h trees = ⊥
 FitsAt b Join h trees = ⊥
 FitsAt b Trace h trees = ⊥
 FitsAt b AddNum h trees = ⊥
+FitsAt b SAssign h trees = ⊥
+FitsAt b SAdd h trees = ⊥
+FitsAt b Full h trees = ⊥
+FitsAt b SJoin h trees = ⊥
+FitsAt b STrace h trees = ⊥
 
 -- the goal of a kind on trees is defined: for some side of the leaves they fit
 pub record IsDefined (kind : MatKind) (trees : List (Tree MatChunk)) : Type 0 where
@@ -94,7 +122,7 @@ pub record IsDefined (kind : MatKind) (trees : List (Tree MatChunk)) : Type 0 wh
   pub leaf_high : leaf ≤ 64
   pub fits : FitsAt leaf kind.what kind.height trees
 
--- what the goal of a kind is: a canonical tree, or the tree of a number
+-- what the goal of a kind is: a canonical tree, of a general block or of a symmetric one, or the tree of a number
 abbrev pub IsOutput : ℕ → What → ℕ → Tree MatChunk → Type 0
 IsOutput b Assign h tree = IsCanonical b h tree
 IsOutput b Add h tree = IsCanonical b h tree
@@ -105,6 +133,11 @@ IsOutput b Transpose h tree = IsCanonical b h tree
 IsOutput b Join h tree = IsCanonical b h tree
 IsOutput b Trace h tree = IsNumber tree
 IsOutput b AddNum h tree = IsNumber tree
+IsOutput b SAssign h tree = IsCanonicalSymmetric b h tree
+IsOutput b SAdd h tree = IsCanonicalSymmetric b h tree
+IsOutput b Full h tree = IsCanonical b h tree
+IsOutput b SJoin h tree = IsCanonicalSymmetric b h tree
+IsOutput b STrace h tree = IsNumber tree
 
 -- ---- Ranks
 
@@ -119,6 +152,11 @@ rank_at MulT h = 4 * h + 2
 rank_at Transpose h = 4 * h + 1
 rank_at Trace h = 4 * h + 1
 rank_at AddNum h = 0
+rank_at SAssign h = 4 * h + 1
+rank_at SAdd h = 4 * h + 1
+rank_at Full h = 4 * h + 1
+rank_at SJoin h = 4 * h
+rank_at STrace h = 4 * h + 1
 
 -- the rank of a kind: its new tasks have lower ones
 abbrev pub rank_of : MatKind → ℕ

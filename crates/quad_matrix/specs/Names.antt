@@ -3,7 +3,7 @@ use Rattle.std.specs.Prelude.{◌≡◌, ℕ, Option, Some, List, [], ◌∷◌,
 use Rattle.std.proofs.Common.{sym, ap, ◌∙◌, lit≤}
 use Rattle.task_types.specs.Names.{IsName}
 use Rattle.quad_matrix.specs.declared.kind.What.{What}
-use Rattle.quad_matrix.specs.declared.kind.What.TheVariants.{Assign, Add, Mul, TMul, MulT, Transpose, Join, Trace, AddNum}
+use Rattle.quad_matrix.specs.declared.kind.What.TheVariants.{Assign, Add, Mul, TMul, MulT, Transpose, Join, Trace, AddNum, SAssign, SAdd, Full, SJoin, STrace}
 use Rattle.quad_matrix.specs.declared.kind.MatKind.{MatKind}
 use Rattle.quad_matrix.specs.Goals.{kind_of}
 
@@ -18,10 +18,15 @@ what_name Transpose = codes "transpose"
 what_name Join = codes "join"
 what_name Trace = codes "trace"
 what_name AddNum = codes "addnum"
+what_name SAssign = codes "sassign"
+what_name SAdd = codes "sadd"
+what_name Full = codes "full"
+what_name SJoin = codes "sjoin"
+what_name STrace = codes "strace"
 
 -- all that a task may compute
 abbrev pub all_whats : List What
-all_whats = Assign ∷ Add ∷ Mul ∷ TMul ∷ MulT ∷ Transpose ∷ Join ∷ Trace ∷ AddNum ∷ []
+all_whats = Assign ∷ Add ∷ Mul ∷ TMul ∷ MulT ∷ Transpose ∷ Join ∷ Trace ∷ AddNum ∷ SAssign ∷ SAdd ∷ Full ∷ SJoin ∷ STrace ∷ []
 
 -- what has this name
 abbrev pub what_of : List ℕ → Option What
@@ -38,6 +43,11 @@ names_named Transpose = (lit≤ tt, lit≤ tt, refl)
 names_named Join = (lit≤ tt, lit≤ tt, refl)
 names_named Trace = (lit≤ tt, lit≤ tt, refl)
 names_named AddNum = (lit≤ tt, lit≤ tt, refl)
+names_named SAssign = (lit≤ tt, lit≤ tt, refl)
+names_named SAdd = (lit≤ tt, lit≤ tt, refl)
+names_named Full = (lit≤ tt, lit≤ tt, refl)
+names_named SJoin = (lit≤ tt, lit≤ tt, refl)
+names_named STrace = (lit≤ tt, lit≤ tt, refl)
 
 -- each is found by its name
 pub what_of-name : (what : What) → what_of (what_name what) ≡ Some what
@@ -50,6 +60,11 @@ what_of-name Transpose = refl
 what_of-name Join = refl
 what_of-name Trace = refl
 what_of-name AddNum = refl
+what_of-name SAssign = refl
+what_of-name SAdd = refl
+what_of-name Full = refl
+what_of-name SJoin = refl
+what_of-name STrace = refl
 
 -- so what has one name is one
 names_differ : (one other : What) → what_name one ≡ what_name other → one ≡ other

@@ -1,16 +1,17 @@
 -- The plans of the kinds: the table, and which shapes an outcome may have where only the presence of the inputs and of their
 -- children is known.
-use Rattle.std.specs.Prelude.{ℕ, zero, suc, Bool, false, ◌&&◌, ◌==◌, nat_le, if◌then◌else◌, List, [], ◌∷◌, length}
+use Rattle.std.specs.Prelude.{ℕ, zero, suc, Bool, true, false, ◌&&◌, ◌==◌, nat_le, if◌then◌else◌, List, [], ◌∷◌, length}
 use Rattle.task_types.specs.declared.outcome.Place.{Place}
 use Rattle.task_types.specs.declared.outcome.Place.TheVariants.{Null, Child, Chunk}
 use Rattle.task_types.specs.Presence.{Presence, all_present}
 use Rattle.task_types.specs.Places.{filled, Shape, shape_from}
 use Rattle.task_plans.specs.declared.plan.Part.{Part}
-use Rattle.task_plans.specs.declared.plan.Part.TheVariants.{Portion, Alone, Either, Pair}
+use Rattle.task_plans.specs.declared.plan.Part.TheVariants.{Portion, Itself, Alone, Either, Pair}
+use Rattle.task_plans.specs.declared.plan.Term.{Term}
 use Rattle.task_plans.specs.declared.plan.Ending.TheVariants.{Joined, Single}
 use Rattle.task_plans.specs.Plans.{Plan, term_on, planned_shapes, given_shape, chunk_shape, are_null, input_place, other_place}
 use Rattle.quad_matrix.specs.declared.kind.What.{What}
-use Rattle.quad_matrix.specs.declared.kind.What.TheVariants.{Assign, Add, Mul, TMul, MulT, Transpose, Join, Trace, AddNum}
+use Rattle.quad_matrix.specs.declared.kind.What.TheVariants.{Assign, Add, Mul, TMul, MulT, Transpose, Join, Trace, AddNum, SAssign, SAdd, Full, SJoin, STrace}
 use Rattle.quad_matrix.specs.declared.kind.MatKind.{MatKind}
 use Rattle.quad_matrix.specs.Goals.{kind_at}
 use Rattle.quad_matrix.specs.Products.{Neither, First, Second, product_plan}
@@ -21,7 +22,30 @@ use Rattle.quad_matrix.specs.Products.{Neither, First, Second, product_plan}
 abbrev pub transpose_part : ℕ → Part What
 transpose_part q = Alone (term_on Transpose (Child 0 q ∷ []))
 
--- the plan of each kind; a join and a sum of numbers ask no tasks
+-- the general form of one symmetric child
+abbrev pub full_part : ℕ → Part What
+full_part q = Alone (term_on Full (Child 0 q ∷ []))
+
+-- the trace of a general block or of a symmetric one
+abbrev pub trace_what : Bool → What
+trace_what false = Trace
+trace_what true = STrace
+
+-- the number of the last child on the diagonal, of a general node or of a symmetric one
+abbrev pub last_child : Bool → ℕ
+last_child false = 3
+last_child true = 2
+
+-- the trace of one child
+abbrev pub trace_term : Bool → ℕ → Term What
+trace_term mirrored q = term_on (trace_what mirrored) (Child 0 q ∷ [])
+
+-- the plan of a trace: the sum of the traces of both children on the diagonal
+abbrev pub trace_plan : Bool → Plan What
+trace_plan mirrored =
+    record { parts = Pair (trace_term mirrored 0) (trace_term mirrored (last_child mirrored)) AddNum ∷ []; ending = Single }
+
+-- the plan of each kind; joins and a sum of numbers ask no tasks
 abbrev pub plan_of : What → Plan What
 plan_of Assign =
     record {
@@ -37,13 +61,19 @@ plan_of Transpose =
       parts = transpose_part 0 ∷ transpose_part 2 ∷ transpose_part 1 ∷ transpose_part 3 ∷ [];
       ending = Joined Join;
     }
-plan_of Trace =
-    record {
-      parts = Pair (term_on Trace (Child 0 0 ∷ [])) (term_on Trace (Child 0 3 ∷ [])) AddNum ∷ [];
-      ending = Single;
-    }
+plan_of Trace = trace_plan false
 plan_of Join = record { parts = []; ending = Single }
 plan_of AddNum = record { parts = []; ending = Single }
+plan_of SAssign =
+    record { parts = Portion SAssign 0 true ∷ Portion Assign 1 false ∷ Portion SAssign 3 true ∷ []; ending = Joined SJoin }
+plan_of SAdd = record { parts = Either SAdd 0 ∷ Either Add 1 ∷ Either SAdd 2 ∷ []; ending = Joined SJoin }
+plan_of Full =
+    record {
+      parts = full_part 0 ∷ Itself 0 1 ∷ transpose_part 1 ∷ full_part 2 ∷ [];
+      ending = Joined Join;
+    }
+plan_of SJoin = record { parts = []; ending = Single }
+plan_of STrace = trace_plan true
 
 -- ---- The shapes of each kind
 
@@ -58,6 +88,11 @@ inputs_of Transpose = 1
 inputs_of Join = 4
 inputs_of Trace = 1
 inputs_of AddNum = 2
+inputs_of SAssign = 1
+inputs_of SAdd = 2
+inputs_of Full = 1
+inputs_of SJoin = 3
+inputs_of STrace = 1
 
 -- the heights that a kind may have
 abbrev pub may_have : What → ℕ → Bool
@@ -70,15 +105,31 @@ may_have Transpose height = nat_le height 16
 may_have Join height = nat_le 1 height && nat_le height 16
 may_have Trace height = nat_le height 16
 may_have AddNum height = height == 0
+may_have SAssign height = nat_le height 16
+may_have SAdd height = nat_le height 16
+may_have Full height = nat_le height 16
+may_have SJoin height = nat_le 1 height && nat_le height 16
+may_have STrace height = nat_le height 16
 
 -- the children of a join
 abbrev pub join_places : List Presence → List Place
 join_places known = input_place known 0 ∷ input_place known 1 ∷ input_place known 2 ∷ input_place known 3 ∷ []
 
+-- those of a symmetric join
+abbrev pub symmetric_join_places : List Presence → List Place
+symmetric_join_places known = input_place known 0 ∷ input_place known 1 ∷ input_place known 2 ∷ []
+
+-- one node chunk over some places, if one of them is not null
+abbrev pub node_shape : List Place → Shape MatKind
+node_shape places = if are_null places then given_shape Null else shape_from (filled places ∷ []) [] (Chunk 0)
+
 -- one node chunk over the inputs that are there, if one is
 abbrev pub joined_shape : List Presence → Shape MatKind
-joined_shape known =
-    if are_null (join_places known) then given_shape Null else shape_from (filled (join_places known) ∷ []) [] (Chunk 0)
+joined_shape known = node_shape (join_places known)
+
+-- the same of a symmetric join
+abbrev pub symmetric_joined_shape : List Presence → Shape MatKind
+symmetric_joined_shape known = node_shape (symmetric_join_places known)
 
 -- the shape where an input is null
 abbrev pub null_shape : What → List Presence → Shape MatKind
@@ -91,6 +142,11 @@ null_shape Transpose known = given_shape Null
 null_shape Join known = joined_shape known
 null_shape Trace known = given_shape Null
 null_shape AddNum known = given_shape (other_place known)
+null_shape SAssign known = given_shape Null
+null_shape SAdd known = given_shape (other_place known)
+null_shape Full known = given_shape Null
+null_shape SJoin known = symmetric_joined_shape known
+null_shape STrace known = given_shape Null
 
 -- the shapes at height 0: null, or one chunk
 abbrev pub low_shapes : List (Shape MatKind)
@@ -112,6 +168,11 @@ full_shapes Transpose height known = shapes_at Transpose height known
 full_shapes Join height known = joined_shape known ∷ []
 full_shapes Trace height known = shapes_at Trace height known
 full_shapes AddNum height known = low_shapes
+full_shapes SAssign height known = shapes_at SAssign height known
+full_shapes SAdd height known = shapes_at SAdd height known
+full_shapes Full height known = shapes_at Full height known
+full_shapes SJoin height known = symmetric_joined_shape known ∷ []
+full_shapes STrace height known = shapes_at STrace height known
 
 -- the shapes that an outcome of a kind may have
 abbrev pub shapes_of : MatKind → List Presence → List (Shape MatKind)

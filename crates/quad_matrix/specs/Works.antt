@@ -4,11 +4,12 @@ use Rattle.dense_def.specs.Matrix.{Matrix, peak_of}
 use Rattle.task_types.specs.Tree.{Tree, Nothing, Root, child, is_there}
 use Rattle.quad_matrix.specs.declared.chunk.MatChunk.{MatChunk}
 use Rattle.quad_matrix.specs.declared.kind.What.{What}
-use Rattle.quad_matrix.specs.declared.kind.What.TheVariants.{Assign, Add, Mul, TMul, MulT, Transpose, Join, Trace, AddNum}
+use Rattle.quad_matrix.specs.declared.kind.What.TheVariants.{Assign, Add, Mul, TMul, MulT, Transpose, Join, Trace, AddNum, SAssign, SAdd, Full, SJoin, STrace}
 use Rattle.quad_matrix.specs.declared.kind.MatKind.{MatKind}
 use Rattle.chunk_codec.specs.Spots.{side_of}
 use Rattle.quad_matrix.specs.Blocks.{block_of, leaf_of, upper_left, upper_right, lower_left, lower_right}
 use Rattle.quad_matrix.specs.Goals.{kind_of, goal_of}
+use Rattle.quad_matrix.specs.Plans.{last_child}
 use Rattle.quad_matrix.specs.Products.{Turned, Neither, First, Second, product_what, first_child, second_child}
 
 -- an item where it is asked for
@@ -35,6 +36,17 @@ add_work (suc h) (Root c x0 x1 x2 x3) (Root d y0 y1 y2 y3) =
     ++ asked (are_both x2 y2) (add_work h x2 y2) ++ asked (are_both x3 y3) (add_work h x3 y3)
     ++ asked (is_either x0 y0 || is_either x1 y1 || is_either x2 y2 || is_either x3 y3) 1)
 
+-- the work of a sum of symmetric blocks: those of the sums of children that both trees have, and 1 for the join of what comes of them
+abbrev pub symmetric_add_work : ℕ → Tree MatChunk → Tree MatChunk → ℕ
+symmetric_add_work zero x y = 1
+symmetric_add_work (suc h) Nothing y = 1
+symmetric_add_work (suc h) (Root c x0 x1 x2 x3) Nothing = 1
+symmetric_add_work (suc h) (Root c x0 x1 x2 x3) (Root d y0 y1 y2 y3) =
+    1
+    + sum
+    (asked (are_both x0 y0) (symmetric_add_work h x0 y0) ++ asked (are_both x1 y1) (add_work h x1 y1)
+    ++ asked (are_both x2 y2) (symmetric_add_work h x2 y2) ++ asked (is_either x0 y0 || is_either x1 y1 || is_either x2 y2) 1)
+
 -- the works of two tasks of which each may be missing, and of what adds both
 abbrev pub pair_works : Bool → Bool → ℕ → ℕ → ℕ → List ℕ
 pair_works false false a b both = []
@@ -42,12 +54,13 @@ pair_works true false a b both = a ∷ []
 pair_works false true a b both = b ∷ []
 pair_works true true a b both = a ∷ b ∷ both ∷ []
 
--- the work of a trace
-abbrev pub trace_work : ℕ → Tree MatChunk → ℕ
-trace_work zero x = 1
-trace_work (suc h) Nothing = 1
-trace_work (suc h) (Root c x0 x1 x2 x3) =
-    1 + sum (pair_works (is_there x0) (is_there x3) (trace_work h x0) (trace_work h x3) 1)
+-- the work of a trace, of a general block or of a symmetric one
+abbrev pub trace_work : Bool → ℕ → Tree MatChunk → ℕ
+trace_work mirrored zero x = 1
+trace_work mirrored (suc h) x =
+    1
+    + sum
+    (pair_works (is_there (child x 0)) (is_there (child x (last_child mirrored))) (trace_work mirrored h (child x 0)) (trace_work mirrored h (child x (last_child mirrored))) 1)
 
 -- the work of a transpose: those of the transposes of the children, and 1 for their join
 abbrev pub transpose_work : ℕ → Tree MatChunk → ℕ
@@ -58,6 +71,17 @@ transpose_work (suc h) x =
     (asked (is_there (child x 0)) (transpose_work h (child x 0)) ++ asked (is_there (child x 2)) (transpose_work h (child x 2))
     ++ asked (is_there (child x 1)) (transpose_work h (child x 1)) ++ asked (is_there (child x 3)) (transpose_work h (child x 3))
     ++ asked (is_there (child x 0) || is_there (child x 2) || is_there (child x 1) || is_there (child x 3)) 1)
+
+-- the work of the general form of a symmetric block: those of the forms of the symmetric children and of the transpose of the child between
+-- them, and 1 for their join
+abbrev pub full_work : ℕ → Tree MatChunk → ℕ
+full_work zero x = 1
+full_work (suc h) x =
+    1
+    + sum
+    (asked (is_there (child x 0)) (full_work h (child x 0)) ++ asked (is_there (child x 1)) (transpose_work h (child x 1))
+    ++ asked (is_there (child x 2)) (full_work h (child x 2))
+    ++ asked (is_there (child x 0) || is_there (child x 1) || is_there (child x 2)) 1)
 
 -- the inputs of a term of a product
 abbrev pub factors : Turned → Tree MatChunk → Tree MatChunk → Bool → Bool → Bool → List (Tree MatChunk)
@@ -109,6 +133,17 @@ assign_work b (suc h) m =
     ++ asked (has_number (lower_right (side_of b h) m)) (assign_work b h (lower_right (side_of b h) m))
     ++ asked (has_number m) 1)
 
+-- the work for a list of entries of a symmetric block: those for the quadrants that are kept and have an entry, and 1 for their join
+abbrev pub symmetric_assign_work : ℕ → ℕ → Matrix → ℕ
+symmetric_assign_work b zero m = 1
+symmetric_assign_work b (suc h) m =
+    1
+    + sum
+    (asked (has_number (upper_left (side_of b h) m)) (symmetric_assign_work b h (upper_left (side_of b h) m))
+    ++ asked (has_number (upper_right (side_of b h) m)) (assign_work b h (upper_right (side_of b h) m))
+    ++ asked (has_number (lower_right (side_of b h) m)) (symmetric_assign_work b h (lower_right (side_of b h) m))
+    ++ asked (has_number m) 1)
+
 -- the work of a kind on trees
 abbrev pub work_at : What → ℕ → List (Tree MatChunk) → ℕ
 work_at Assign h (x ∷ []) = assign_work (leaf_of x) h (block_of (leaf_of x) h x)
@@ -117,7 +152,11 @@ work_at Mul h (x ∷ y ∷ []) = product_work Neither h x y
 work_at TMul h (x ∷ y ∷ []) = product_work First h x y
 work_at MulT h (x ∷ y ∷ []) = product_work Second h x y
 work_at Transpose h (x ∷ []) = transpose_work h x
-work_at Trace h (x ∷ []) = trace_work h x
+work_at Trace h (x ∷ []) = trace_work false h x
+work_at SAssign h (x ∷ []) = symmetric_assign_work (leaf_of x) h (block_of (leaf_of x) h x)
+work_at SAdd h (x ∷ y ∷ []) = symmetric_add_work h x y
+work_at Full h (x ∷ []) = full_work h x
+work_at STrace h (x ∷ []) = trace_work true h x
 work_at Assign h trees = 1
 work_at Add h trees = 1
 work_at Mul h trees = 1
@@ -127,6 +166,11 @@ work_at Transpose h trees = 1
 work_at Join h trees = 1
 work_at Trace h trees = 1
 work_at AddNum h trees = 1
+work_at SAssign h trees = 1
+work_at SAdd h trees = 1
+work_at Full h trees = 1
+work_at SJoin h trees = 1
+work_at STrace h trees = 1
 
 -- the work of a kind: how many tasks are finished for it, itself counted
 abbrev pub work_of : MatKind → List (Tree MatChunk) → ℕ

@@ -1,7 +1,7 @@
 // Lists of entries as blocks: the parts of a list by quadrant, and the leaf block of a list.
-ghost use Rattle.std.specs.Prelude.{◌≡◌, ◌-◌, ◌*◌, ◌^◌, ◌<◌, ◌≤◌, false, [], ◌∷◌, ◌++◌, IfOk, OnOk};
+ghost use Rattle.std.specs.Prelude.{◌≡◌, ◌-◌, ◌*◌, ◌^◌, ◌<◌, ◌≤◌, true, false, [], ◌∷◌, ◌++◌, IfOk, OnOk};
 ghost use Rattle.chunk_codec.specs.Spots.{side_of};
-ghost use Rattle.quad_matrix.specs.Spots.{AreSoundEntries, block_of_spots};
+ghost use Rattle.quad_matrix.specs.Spots.{AreSoundEntries, block_of_spots, mirrored_block};
 ghost use Rattle.quad_matrix.specs.Quarters.{quarters_of, followed};
 ghost use Rattle.quad_matrix.specs.Portions.{listed, is_mirrored, takes_mirrored, portions_of};
 
@@ -9,7 +9,8 @@ use crate::chunk::{Entries, MatChunk};
 use crate::kind::What;
 use cht_ids::{List, Memory};
 use chunk_codec::Spot;
-use leaf_blocks::Leaf;
+use leaf_blocks::kernels::triangle_index;
+use leaf_blocks::{Leaf, SymLeaf};
 use std::alloc::Global;
 use task_plans::{Part, Portions};
 
@@ -111,6 +112,21 @@ pub fn leaf_block(alloc: Global, entries: &Entries) -> Result<Leaf, Memory>
         numbers[spot.row as usize * side + spot.column as usize] = i128::from(spot.value);
     }
     Ok(Leaf::new(entries.leaf, List::from_vec(numbers)))
+}
+
+/// The symmetric leaf block of the list of its upper triangle: the values at their places and at those with row and column exchanged,
+/// and 0 elsewhere.
+pub fn symmetric_leaf_block(alloc: Global, entries: &Entries) -> Result<SymLeaf, Memory>
+    requires { AreSoundEntries entries.now.leaf 0 true entries.now }
+    ensures { IfOk result (λ block. block ≡ mirrored_block entries.now.leaf entries.now.list) }
+{
+    let side = entries.leaf;
+    let count = side as usize * (side as usize + 1) / 2;
+    let mut numbers = Vec::from_elem(alloc, 0, count)?;
+    for spot in entries.list.as_slice() {
+        numbers[triangle_index(side, spot.row, spot.column)] = i128::from(spot.value);
+    }
+    Ok(SymLeaf::new(side, List::from_vec(numbers)))
 }
 
 // The side of a block with that many levels above its leaves.

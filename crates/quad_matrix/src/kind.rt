@@ -27,10 +27,20 @@ pub enum What {
     Trace,
     /// The sum of two numbers.
     AddNum,
+    /// The symmetric block of a list of the entries of its upper triangle.
+    SAssign,
+    /// The sum of two symmetric blocks.
+    SAdd,
+    /// A symmetric block in general form.
+    Full,
+    /// The symmetric block with two symmetric blocks on its diagonal and a general one between them, whose transpose stands below.
+    SJoin,
+    /// The sum of the numbers on the diagonal of a symmetric block.
+    STrace,
 }
 
 // All of them.
-const ALL: [What; 9] = [
+const ALL: [What; 14] = [
     What::Assign,
     What::Add,
     What::Mul,
@@ -40,6 +50,11 @@ const ALL: [What; 9] = [
     What::Join,
     What::Trace,
     What::AddNum,
+    What::SAssign,
+    What::SAdd,
+    What::Full,
+    What::SJoin,
+    What::STrace,
 ];
 
 impl What {
@@ -58,6 +73,11 @@ impl What {
             What::Join => b"join",
             What::Trace => b"trace",
             What::AddNum => b"addnum",
+            What::SAssign => b"sassign",
+            What::SAdd => b"sadd",
+            What::Full => b"full",
+            What::SJoin => b"sjoin",
+            What::STrace => b"strace",
         }
     }
 
@@ -78,14 +98,15 @@ impl Operation for What {
         let height = match self {
             What::Assign | What::Add | What::Mul | What::TMul | What::MulT => height,
             What::Transpose | What::Join | What::Trace => height,
+            What::SAssign | What::SAdd | What::Full | What::SJoin | What::STrace => height,
             What::AddNum => 0,
         };
         MatKind { what: self, height }
     }
 }
 
-/// A kind of task: what it computes, and the height of its blocks; for `Join` that of the block that is joined, and 0 for
-/// `AddNum`.
+/// A kind of task: what it computes, and the height of its blocks; for `Join` and `SJoin` that of the block that is joined,
+/// and 0 for `AddNum`.
 #[derive(Clone, Copy, Debug, PartialEq, Eq)]
 pub struct MatKind {
     pub what: What,

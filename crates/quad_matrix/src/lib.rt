@@ -10,7 +10,7 @@ mod plan;
 
 pub use chunk::{Entries, MatChunk};
 pub use chunk_codec::Spot;
-pub use entries::{leaf_block, portions};
+pub use entries::{leaf_block, portions, symmetric_leaf_block};
 pub use kind::{MatKind, What};
 pub use laws::{
     canonical_children, canonical_trees, goals, number_trees, product_goals, sound_portions,

@@ -48,13 +48,13 @@ macro_rules! term {
     };
 }
 
-// The entries of a general block in one quadrant.
+// The entries of a block in one quadrant, of which they tell all or the upper triangle alone.
 macro_rules! portion {
-    ($what:expr, $quadrant:expr) => {
+    ($what:expr, $quadrant:expr, $symmetric:expr) => {
         Part::Portion {
             what: $what,
             number: $quadrant,
-            symmetric: false,
+            symmetric: $symmetric,
         }
     };
 }
@@ -71,10 +71,10 @@ macro_rules! either {
 
 // The entries in each quadrant.
 const ASSIGN: [Part<What>; 4] = [
-    portion!(What::Assign, 0),
-    portion!(What::Assign, 1),
-    portion!(What::Assign, 2),
-    portion!(What::Assign, 3),
+    portion!(What::Assign, 0, false),
+    portion!(What::Assign, 1, false),
+    portion!(What::Assign, 2, false),
+    portion!(What::Assign, 3, false),
 ];
 
 // The sum of the children with each number.
@@ -124,6 +124,35 @@ const TRACE: [Part<What>; 1] = [Part::Pair {
     sum: What::AddNum,
 }];
 
+// The entries in the quadrants on the diagonal and above it.
+const SASSIGN: [Part<What>; 3] = [
+    portion!(What::SAssign, 0, true),
+    portion!(What::Assign, 1, false),
+    portion!(What::SAssign, 3, true),
+];
+
+// The sums of the symmetric children, and of the general ones between them.
+const SADD: [Part<What>; 3] = [
+    either!(What::SAdd, 0),
+    either!(What::Add, 1),
+    either!(What::SAdd, 2),
+];
+
+// The symmetric children in general form, and the one between them with its transpose.
+const FULL: [Part<What>; 4] = [
+    Part::Alone(term!(What::Full, Place::Child(0, 0))),
+    Part::Itself { input: 0, child: 1 },
+    Part::Alone(term!(What::Transpose, Place::Child(0, 1))),
+    Part::Alone(term!(What::Full, Place::Child(0, 2))),
+];
+
+// The traces of the symmetric children.
+const STRACE: [Part<What>; 1] = [Part::Pair {
+    first: term!(What::STrace, Place::Child(0, 0)),
+    second: term!(What::STrace, Place::Child(0, 2)),
+    sum: What::AddNum,
+}];
+
 impl What {
     /// The parts of its plan, in order: what a kind of height at least 1 asks where all its inputs are there.
     pub fn parts(self) -> &'static [Part<What>]
@@ -137,7 +166,11 @@ impl What {
             What::MulT => &MULT,
             What::Transpose => &TRANSPOSE,
             What::Trace => &TRACE,
-            What::Join | What::AddNum => &[],
+            What::SAssign => &SASSIGN,
+            What::SAdd => &SADD,
+            What::Full => &FULL,
+            What::STrace => &STRACE,
+            What::Join | What::SJoin | What::AddNum => &[],
         }
     }
 
@@ -149,7 +182,11 @@ impl What {
             What::Assign | What::Add | What::Mul | What::TMul | What::MulT | What::Transpose => {
                 Ending::Joined(What::Join)
             }
-            What::Trace | What::Join | What::AddNum => Ending::Single,
+            What::Full => Ending::Joined(What::Join),
+            What::SAssign => Ending::Joined(What::SJoin),
+            What::SAdd => Ending::Joined(What::SJoin),
+            What::Trace | What::STrace => Ending::Single,
+            What::Join | What::SJoin | What::AddNum => Ending::Single,
         }
     }
 }
