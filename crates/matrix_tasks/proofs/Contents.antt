@@ -1,8 +1,8 @@
 -- New contents are sound.
-use Rattle.std.proofs.Common.{◌≡◌, ℕ, zero, suc, ◌^◌, ◌≤◌, max, false, List, [], ◌∷◌, ℤ, pos, unsigned_abs, map, refl, sym, ap, ◌∙◌, subst, arith}
+use Rattle.std.proofs.Common.{◌≡◌, ◌↔◌, ℕ, zero, suc, ◌^◌, ◌≤◌, ◌==◌, max, Bool, true, false, IsTrue, List, [], ◌∷◌, ℤ, pos, unsigned_abs, map, refl, sym, ap, ◌∙◌, subst, arith}
 use Rattle.std.proofs.lemmas.Int.{ints}
 use Rattle.std.proofs.lemmas.Bool.{false≢true}
-use Rattle.dense_def.specs.Matrix.{Matrix, height, entry, peak_of, trace_of, TraceFits}
+use Rattle.dense_def.specs.Matrix.{Matrix, height, entry, peak_of, trace_of, IsZero, TraceFits}
 use Rattle.dense_def.proofs.Peaks.{peak-zero}
 use Rattle.dense_def.proofs.Sums.{magnitudes_bound}
 use Rattle.chunk_codec.specs.declared.plain.Spot.{Spot}
@@ -31,6 +31,15 @@ tall_if_some m some = lemma (height m) refl
     lemma : (n : ℕ) → height m ≡ n → 1 ≤ height m
     lemma zero e = absurd (some ((peak-zero m).0 (λ i j p q. absurd (omega arith))))
     lemma (suc n) e = omega arith
+
+-- a test whether all numbers of a block are 0 tells whether the peak is
+pub zero_told : (m : Matrix) (told : Bool) → (IsTrue told ↔ IsZero m) → told ≡ (peak_of m == 0)
+zero_told m true is = sym (ap (λ n. n == 0) ((peak-zero m).0 (is.0 refl)))
+zero_told m false is = lemma (peak_of m) refl
+  where
+    lemma : (n : ℕ) → peak_of m ≡ n → false ≡ (peak_of m == 0)
+    lemma zero e = absurd (false≢true (is.1 ((peak-zero m).1 e)))
+    lemma (suc n) e = grind arith
 
 -- a leaf whose block is not zero
 pub sound_leaf : (m : Matrix) → height m ≤ 64 → peak_of m ≤ 2 ^ 126 → (peak_of m ≡ 0 → ⊥) → IsSoundBlock (height m) (peak_of m)

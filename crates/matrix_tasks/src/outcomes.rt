@@ -1,6 +1,6 @@
 // Outcomes that are one chunk without children, or null.
-ghost use Rattle.std.specs.Prelude.{◌≡◌, ◌^◌, ◌≤◌, unsigned_abs, IfOk};
-ghost use Rattle.dense_def.specs.Matrix.{height};
+ghost use Rattle.std.specs.Prelude.{◌≡◌, ◌==◌, ◌^◌, ◌≤◌, unsigned_abs, IfOk};
+ghost use Rattle.dense_def.specs.Matrix.{height, peak_of};
 ghost use Rattle.matrix_tasks.specs.Answers.{leaf_outcome, number_outcome};
 
 use cht_ids::Memory;
@@ -10,13 +10,23 @@ use std::alloc::Global;
 use task_plans::{given, one_chunk};
 use task_types::{Outcome, Place};
 
+// Whether all numbers of a block are 0. It looks no further than the first that is not.
+fn is_zero(block: &Leaf) -> bool
+    ensures zero { result ≡ (peak_of block.now == 0) }
+    ensures small { peak_of block.now ≤ 2 ^ 126 }
+{
+    // This call is there for the proof: it tells that the numbers are small.
+    let _side = block.side();
+    block.is_zero()
+}
+
 // A block as a leaf, or null where it is zero.
 #[tactic(auto, using(crate::proofs::Contents::sound_leaf))]
 pub(crate) fn leaf(alloc: Global, block: Leaf) -> Result<Outcome<MatChunk, MatKind>, Memory>
     requires { height block ≤ 64 }
     ensures { IfOk result (λ outcome. outcome ≡ leaf_outcome block) }
 {
-    if block.peak() == 0 {
+    if is_zero(&block) {
         return Ok(given(alloc, Place::Null));
     }
     one_chunk(alloc, MatChunk::Leaf(block), &[])
