@@ -12,13 +12,35 @@ use Rattle.task_links.specs.declared.entries.Entry.{Entry}
 use Rattle.task_links.specs.declared.entries.Spot.{Spot}
 use Rattle.task_graph.specs.declared.parts.Parts.{Parts}
 use Rattle.task_links.specs.Weave.{Head, IsWoven, link_of, link_at, head_at, head_of}
-use Rattle.task_links.specs.Inside.{put_in, shown_entry, shown_at, entries_at, place_in, station_at, station_of}
+use Rattle.task_links.specs.Inside.{put_in, with_run_at, shown_entry, shown_at, entries_at, place_in, station_at, station_of}
 use Rattle.task_links.specs.Callers.{caller_at, bounds_at, bounds_of, with_running_at}
 use Rattle.task_links.specs.Order.{IsOrdered}
 use Rattle.task_graph.specs.Graphs.{tasks_of, graph_of, stopped_from, IsWhole, IsRevised, with_revised, run_for}
 use Rattle.task_links.proofs.Changes.{reheaded-woven}
 use Rattle.task_graph.proofs.Counting.{count_changed, passes}
 use Rattle.task_graph.proofs.Runs.{task_is, task_there}
+
+unchanged_run : {K : Type 0} (q task : ℕ) (runner asked : Option ℕ) (o : Option (Entry K)) → nat_eq q task ≡ false → option_map (with_run_at q task runner asked) o ≡ o
+unchanged_run q task runner asked None test = refl
+unchanged_run q task runner asked (Some entry) test = ap (λ b. Some (record entry { runner = cond b runner entry.runner; asked = cond b asked entry.asked })) test
+
+-- a task with another worker and another asked output, as one put in
+pub run_put : {K : Type 0} (old new : ℕ → Option (Entry K)) (task : ℕ) (runner asked : Option ℕ) (entry : Entry K) → old task ≡ Some entry → ((q : ℕ) → new q ≡ option_map (with_run_at q task runner asked) (old q))
+    → (q : ℕ) → new q ≡ put_in task (record entry { runner = runner; asked = asked }) old q
+run_put old new task runner asked entry is writes q =
+    elim (same_or_not q task) [
+      | inl same ↦
+          let test : nat_eq q task ≡ true = ap (λ t. nat_eq t task) same ∙ test_same task in
+          writes q
+          ∙ ap (option_map (with_run_at q task runner asked)) (ap old same ∙ is)
+          ∙ ap (λ b. Some (record entry { runner = cond b runner entry.runner; asked = cond b asked entry.asked })) test
+          ∙ ap (λ b. cond b (Some (record entry { runner = runner; asked = asked })) (old q)) (sym test)
+      | inr apart ↦
+          let test : nat_eq q task ≡ false = test_apart q task apart in
+          writes q
+          ∙ unchanged_run q task runner asked (old q) test
+          ∙ ap (λ b. cond b (Some (record entry { runner = runner; asked = asked })) (old q)) (sym test)
+    ]
 
 -- the stopped callers, where no flag changed
 pub same_stopped : (first : ℕ) (old new : List Caller) → length new ≡ length old → ((i : ℕ) (row : Caller) → slice_get old i ≡ Some row → (other : Caller) × (slice_get new i ≡ Some other) × (other.stopped ≡ row.stopped)) → stopped_from first new ≡ stopped_from first old

@@ -75,12 +75,9 @@ impl<K: Copy> Parts<K> {
         ensures graph { (entry : AnyEntry K) → entries_at self.old.entries task ≡ Some entry → graph_of self.new ≡ with_revised (graph_of self.old) task (shown_entry entry) runner asked }
         ensures size { IsSameSize self.old.entries self.new.entries }
     {
-        let mut entry = self.entries.get(task);
-        let caller = entry.caller;
-        entry.runner = runner;
-        entry.asked = asked;
-        self.entries.put(task, entry);
-        self.count(caller, running);
+        let entry = self.entries.get(task);
+        self.entries.set_run(task, runner, asked);
+        self.count(entry.caller, running);
     }
 
     /// A worker runs a Ready task.

@@ -14,7 +14,7 @@ use Rattle.task_links.specs.declared.entries.Link.{Link}
 use Rattle.task_links.specs.declared.kept.Kept.{Kept}
 use Rattle.task_links.specs.declared.kept.KeptPlace.{KeptPlace}
 use Rattle.task_links.specs.Kept.{opened, opened_place}
-use Rattle.task_links.specs.Inside.{put_in, inputs_of, shown_place, shown_entry, place_in, place_at, is_spot, with_input, shown_at}
+use Rattle.task_links.specs.Inside.{put_in, inputs_of, shown_place, shown_entry, place_in, place_at, is_spot, with_input, shown_at, with_place_at}
 use Rattle.task_links.specs.Weave.{link_of, link_at}
 
 suc_zero : (k : ℕ) → nat_eq (suc k) 0 ≡ false
@@ -82,6 +82,33 @@ module _ {K : Type 0} (old new : ℕ → Option (Entry K)) (spot : Spot) (entry 
             let test : nat_eq q spot.task ≡ false = test_apart q spot.task apart in
             ap (option_map shown_entry) (puts q ∙ ap (λ b. cond b (Some changed) (old q)) test) ∙ unchanged_inputs q spot place (shown_at old q) test
       ]
+
+unchanged_places : {K : Type 0} (q : ℕ) (spot : Spot) (place : Place) (o : Option (Entry K)) → nat_eq q spot.task ≡ false → option_map (with_place_at q spot place) o ≡ o
+unchanged_places q spot place None test = refl
+unchanged_places q spot place (Some entry) test = ap (λ b. Some (record entry { places = cond b (set entry.places spot.place place) entry.places })) test
+
+-- a task with another input at a place, as one put in
+pub put_place : {K : Type 0} (old new : ℕ → Option (Entry K)) (spot : Spot) (place : Place) (entry : Entry K) → old spot.task ≡ Some entry → ((q : ℕ) → new q ≡ option_map (with_place_at q spot place) (old q))
+    → (q : ℕ) → new q ≡ put_in spot.task (record entry { places = set entry.places spot.place place }) old q
+put_place old new spot place entry is writes q =
+    elim (same_or_not q spot.task) [
+      | inl same ↦
+          let test : nat_eq q spot.task ≡ true = ap (λ t. nat_eq t spot.task) same ∙ test_same spot.task in
+          writes q
+          ∙ ap (option_map (with_place_at q spot place)) (ap old same ∙ is)
+          ∙ ap (λ b. Some (record entry { places = cond b (set entry.places spot.place place) entry.places })) test
+          ∙ ap (λ b. cond b (Some (record entry { places = set entry.places spot.place place })) (old q)) (sym test)
+      | inr apart ↦
+          let test : nat_eq q spot.task ≡ false = test_apart q spot.task apart in
+          writes q
+          ∙ unchanged_places q spot place (old q) test
+          ∙ ap (λ b. cond b (Some (record entry { places = set entry.places spot.place place })) (old q)) (sym test)
+    ]
+
+-- the task of an input
+pub entry_there : {K : Type 0} (o : Option (Entry K)) (place : ℕ) → IsSome (place_in o place) → (entry : Entry K) × (o ≡ Some entry)
+entry_there None place there = absurd (cc)
+entry_there (Some entry) place there = (entry, refl)
 
 -- an awaiting input behind its link
 pub awaits_behind : (o : Option Place) (link : Link) → link_of o ≡ Some link → o ≡ Some (Awaits link)

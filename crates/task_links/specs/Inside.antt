@@ -85,3 +85,23 @@ module _ {K : Type 0} where
   -- an entry with another number of its asked output, where it is that of a task
   abbrev pub with_asked_at : ℕ → ℕ → Option ℕ → Entry K → Entry K
   with_asked_at at task asked entry = record entry { asked = cond (nat_eq at task) asked entry.asked }
+
+  -- an entry with another worker and another number of its asked output, where it is that of a task
+  abbrev pub with_run_at : ℕ → ℕ → Option ℕ → Option ℕ → Entry K → Entry K
+  with_run_at at task runner asked entry = record entry { runner = cond (nat_eq at task) runner entry.runner; asked = cond (nat_eq at task) asked entry.asked }
+
+  -- an entry with another input at a place, where it is that of a task
+  abbrev pub with_place_at : ℕ → Spot → Place → Entry K → Entry K
+  with_place_at at spot place entry = record entry { places = cond (nat_eq at spot.task) (set entry.places spot.place place) entry.places }
+
+  -- an entry with another first and last of its list, where it is that of a task
+  abbrev pub with_ends_at : ℕ → ℕ → Option Spot → Option Spot → Entry K → Entry K
+  with_ends_at at task first last entry = record entry { first = cond (nat_eq at task) first entry.first; last = cond (nat_eq at task) last entry.last }
+
+  -- an entry with another one that follows it among those of its caller, where it is that of a task
+  abbrev pub with_follower_at : ℕ → ℕ → Option ℕ → Entry K → Entry K
+  with_follower_at at task after entry = record entry { after = cond (nat_eq at task) after entry.after }
+
+  -- an entry with another one that stands before it among those of its caller, where it is that of a task
+  abbrev pub with_leader_at : ℕ → ℕ → Option ℕ → Entry K → Entry K
+  with_leader_at at task before entry = record entry { before = cond (nat_eq at task) before entry.before }

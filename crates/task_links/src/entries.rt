@@ -5,12 +5,12 @@ ghost use Rattle.std.specs.Option.{option_map};
 ghost use Rattle.std.specs.List.{list_any};
 ghost use Rattle.task_states.specs.States.{is_awaiting, status_of};
 ghost use Rattle.task_links.specs.declared.entries.Spot.{Spot as AnySpot};
-ghost use Rattle.task_links.specs.Inside.{entries_at, put_in, room_of, IsSameSize, shown_place, place_at, is_spot, with_input, shown_at, station_at, with_runner_at, with_asked_at, shown_entry, inputs_of};
-ghost use Rattle.task_links.specs.Kept.{opened};
+ghost use Rattle.task_links.specs.Inside.{entries_at, put_in, room_of, IsSameSize, shown_place, place_at, is_spot, with_input, shown_at, station_at, with_runner_at, with_asked_at, with_run_at, with_place_at, with_ends_at, with_follower_at, with_leader_at, shown_entry, inputs_of};
+ghost use Rattle.task_links.specs.Kept.{opened, opened_place, first_in, last_in, joined_if};
 ghost use Rattle.task_links.specs.Weave.{head_at, link_at, with_next, with_ends, IsBeside, count_of};
 ghost use Rattle.task_links.specs.Order.{with_after_at, with_before_at};
 
-use crate::kept::{Kept, kept_ends, kept_place, place, split_if};
+use crate::kept::{Halves, Kept, KeptEnds, KeptPlace, kept_ends, kept_place, place, split_if};
 use cht_ids::Ref;
 use std::collections::HashMap;
 
@@ -60,52 +60,81 @@ pub struct Entries<K> {
 
 impl<K: Copy> Entries<K> {
     // What is kept of a task.
-    fn kept(&self, task: u128) -> Kept<K>
+    #[inline(always)]
+    fn look(&self, task: u128) -> &Kept<K>
         requires { IsSome (entries_at self.now task) }
-        ensures { entries_at self.now task ≡ Some (opened result) }
+        ensures { entries_at self.now task ≡ Some (opened result.now) }
     {
-        *self.tasks.get(&task).unwrap()
+        self.tasks.get(&task).unwrap()
     }
 
-    // Writes what is kept of a task.
-    fn write(&mut self, task: u128, kept: Kept<K>)
-        requires { IsSome (entries_at self.old task) }
-        ensures at { (q : ℕ) → entries_at self.new q ≡ put_in task (opened kept) (entries_at self.old) q }
+    // The input at a place, as it is kept.
+    #[inline(always)]
+    fn kept_input(&self, spot: Spot) -> KeptPlace
+        requires { IsSome (place_at (entries_at self.now) spot) }
+        ensures { place_at (entries_at self.now) spot ≡ Some (opened_place result) }
+    {
+        let kept = self.look(spot.task);
+        kept.place(spot.place)
+    }
+
+    // Writes the input at a place.
+    #[inline(always)]
+    fn write_place(&mut self, spot: Spot, place: KeptPlace)
+        requires { IsSome (place_at (entries_at self.old) spot) }
+        ensures at { (q : ℕ) → entries_at self.new q ≡ option_map (with_place_at q spot (opened_place place)) (entries_at self.old q) }
         ensures size { IsSameSize self.old self.new }
     {
-        if let Some(place) = self.tasks.get_mut(&task) {
-            *place = kept;
+        if let Some(kept) = self.tasks.get_mut(&spot.task) {
+            kept.set_place(spot.place, place);
+        }
+    }
+
+    // Writes the ends of a task's list.
+    #[inline(always)]
+    fn write_ends(&mut self, task: u128, ends: KeptEnds)
+        requires { IsSome (entries_at self.old task) }
+        ensures at { (q : ℕ) → entries_at self.new q ≡ option_map (with_ends_at q task (first_in ends) (last_in ends)) (entries_at self.old q) }
+        ensures size { IsSameSize self.old self.new }
+    {
+        if let Some(kept) = self.tasks.get_mut(&task) {
+            kept.ends = ends;
         }
     }
 
     /// The entry of a task.
+    #[inline(always)]
     pub fn get(&self, task: u128) -> Entry<K>
         requires { IsSome (entries_at self.now task) }
         ensures { entries_at self.now task ≡ Some result }
     {
-        let kept = self.tasks.get(&task).unwrap();
+        let kept = self.look(task);
         kept.open()
     }
 
     /// Writes the entry of a task.
+    #[inline(always)]
     pub fn put(&mut self, task: u128, entry: Entry<K>)
         requires { IsSome (entries_at self.old task) }
         ensures at { (q : ℕ) → entries_at self.new q ≡ put_in task entry (entries_at self.old) q }
         ensures size { IsSameSize self.old self.new }
     {
-        self.write(task, Kept::of(&entry));
+        if let Some(kept) = self.tasks.get_mut(&task) {
+            *kept = Kept::of(&entry);
+        }
     }
 
     // The input at a place.
+    #[inline(always)]
     fn input(&self, spot: Spot) -> Place
         requires { IsSome (place_at (entries_at self.now) spot) }
         ensures { place_at (entries_at self.now) spot ≡ Some result }
     {
-        let kept = self.kept(spot.task);
-        place(kept.places[spot.place as usize])
+        place(self.kept_input(spot))
     }
 
     // The link of an input, where it awaits a task.
+    #[inline(always)]
     fn awaited(&self, spot: Spot) -> Option<Link>
         requires { IsSome (place_at (entries_at self.now) spot) }
         ensures { result ≡ link_at (entries_at self.now) spot }
@@ -117,6 +146,7 @@ impl<K: Copy> Entries<K> {
     }
 
     /// The link of an awaiting input.
+    #[inline(always)]
     pub fn link(&self, spot: Spot) -> Link
         requires { IsSome (link_at (entries_at self.now) spot) }
         ensures { link_at (entries_at self.now) spot ≡ Some result }
@@ -125,6 +155,7 @@ impl<K: Copy> Entries<K> {
     }
 
     /// Writes the input at a place.
+    #[inline(always)]
     pub fn set_place(&mut self, spot: Spot, place: Place)
         requires { IsSome (place_at (entries_at self.old) spot) }
         ensures places { (p : AnySpot) → place_at (entries_at self.new) p ≡ cond (is_spot p spot) (Some place) (place_at (entries_at self.old) p) }
@@ -134,12 +165,11 @@ impl<K: Copy> Entries<K> {
         ensures counts { (q : ℕ) → option_map count_of (entries_at self.new q) ≡ option_map count_of (entries_at self.old q) }
         ensures size { IsSameSize self.old self.new }
     {
-        let mut kept = self.kept(spot.task);
-        kept.places[spot.place as usize] = kept_place(place);
-        self.write(spot.task, kept);
+        self.write_place(spot, kept_place(place));
     }
 
     /// Writes the next one of an awaiting input.
+    #[inline(always)]
     pub fn set_next(&mut self, spot: Spot, next: Option<Spot>)
         requires { IsSome (link_at (entries_at self.old) spot) }
         ensures links { (p : AnySpot) → link_at (entries_at self.new) p ≡ option_map (with_next p spot next) (link_at (entries_at self.old) p) }
@@ -154,6 +184,7 @@ impl<K: Copy> Entries<K> {
     }
 
     /// Writes the first and the last of a task's list.
+    #[inline(always)]
     pub fn set_ends(&mut self, task: u128, first: Option<Spot>, last: Option<Spot>)
         requires { IsSome (entries_at self.old task) }
         ensures links { (p : AnySpot) → link_at (entries_at self.new) p ≡ link_at (entries_at self.old) p }
@@ -164,43 +195,57 @@ impl<K: Copy> Entries<K> {
         ensures counts { (q : ℕ) → option_map count_of (entries_at self.new q) ≡ option_map count_of (entries_at self.old q) }
         ensures size { IsSameSize self.old self.new }
     {
-        let kept = self.kept(task);
-        let ends = kept_ends(first, last);
-        self.write(task, Kept { ends, ..kept });
+        self.write_ends(task, kept_ends(first, last));
+    }
+
+    // Writes the task that follows a task, as it is kept.
+    #[inline(always)]
+    fn write_after(&mut self, task: u128, after: Halves, has_after: bool)
+        requires { IsSome (entries_at self.old task) }
+        ensures at { (q : ℕ) → entries_at self.new q ≡ option_map (with_follower_at q task (joined_if after has_after)) (entries_at self.old q) }
+        ensures size { IsSameSize self.old self.new }
+    {
+        if let Some(kept) = self.tasks.get_mut(&task) {
+            kept.after = after;
+            kept.has_after = has_after;
+        }
+    }
+
+    // Writes the task that stands before a task, as it is kept.
+    #[inline(always)]
+    fn write_before(&mut self, task: u128, before: Halves, has_before: bool)
+        requires { IsSome (entries_at self.old task) }
+        ensures at { (q : ℕ) → entries_at self.new q ≡ option_map (with_leader_at q task (joined_if before has_before)) (entries_at self.old q) }
+        ensures size { IsSameSize self.old self.new }
+    {
+        if let Some(kept) = self.tasks.get_mut(&task) {
+            kept.before = before;
+            kept.has_before = has_before;
+        }
     }
 
     /// Writes the task that follows a task among those of its caller.
+    #[inline(always)]
     pub fn set_after(&mut self, task: u128, after: Option<u128>)
         requires { IsSome (entries_at self.old task) }
         ensures stations { (q : ℕ) → station_at (entries_at self.new) q ≡ option_map (with_after_at q (Some task) after) (station_at (entries_at self.old) q) }
         ensures beside { IsBeside (entries_at self.old) (entries_at self.new) }
         ensures size { IsSameSize self.old self.new }
     {
-        let kept = self.kept(task);
         let (after, has_after) = split_if(after);
-        let written = Kept {
-            after,
-            has_after,
-            ..kept
-        };
-        self.write(task, written);
+        self.write_after(task, after, has_after);
     }
 
     /// Writes the task that stands before a task among those of its caller.
+    #[inline(always)]
     pub fn set_before(&mut self, task: u128, before: Option<u128>)
         requires { IsSome (entries_at self.old task) }
         ensures stations { (q : ℕ) → station_at (entries_at self.new) q ≡ option_map (with_before_at q (Some task) before) (station_at (entries_at self.old) q) }
         ensures beside { IsBeside (entries_at self.old) (entries_at self.new) }
         ensures size { IsSameSize self.old self.new }
     {
-        let kept = self.kept(task);
         let (before, has_before) = split_if(before);
-        let written = Kept {
-            before,
-            has_before,
-            ..kept
-        };
-        self.write(task, written);
+        self.write_before(task, before, has_before);
     }
 
     /// Writes the worker that runs a task.
@@ -209,8 +254,9 @@ impl<K: Copy> Entries<K> {
         ensures at { (q : ℕ) → entries_at self.new q ≡ option_map (with_runner_at q task runner) (entries_at self.old q) }
         ensures size { IsSameSize self.old self.new }
     {
-        let kept = self.kept(task);
-        self.write(task, Kept { runner, ..kept });
+        if let Some(kept) = self.tasks.get_mut(&task) {
+            kept.runner = runner;
+        }
     }
 
     /// Writes the number of the asked output of a task.
@@ -219,14 +265,36 @@ impl<K: Copy> Entries<K> {
         ensures at { (q : ℕ) → entries_at self.new q ≡ option_map (with_asked_at q task asked) (entries_at self.old q) }
         ensures size { IsSameSize self.old self.new }
     {
-        let kept = self.kept(task);
         let (asked, is_asked) = split_if(asked);
-        let written = Kept {
-            asked,
-            is_asked,
-            ..kept
-        };
-        self.write(task, written);
+        if let Some(kept) = self.tasks.get_mut(&task) {
+            kept.asked = asked;
+            kept.is_asked = is_asked;
+        }
+    }
+
+    // Writes the worker that runs a task, and the number of its asked output as it is kept.
+    #[inline(always)]
+    fn write_run(&mut self, task: u128, runner: Option<u32>, asked: Halves, is_asked: bool)
+        requires { IsSome (entries_at self.old task) }
+        ensures at { (q : ℕ) → entries_at self.new q ≡ option_map (with_run_at q task runner (joined_if asked is_asked)) (entries_at self.old q) }
+        ensures size { IsSameSize self.old self.new }
+    {
+        if let Some(kept) = self.tasks.get_mut(&task) {
+            kept.runner = runner;
+            kept.asked = asked;
+            kept.is_asked = is_asked;
+        }
+    }
+
+    /// Writes the worker that runs a task, and the number of its asked output.
+    #[inline(always)]
+    pub fn set_run(&mut self, task: u128, runner: Option<u32>, asked: Option<u128>)
+        requires { IsSome (entries_at self.old task) }
+        ensures at { (q : ℕ) → entries_at self.new q ≡ option_map (with_run_at q task runner asked) (entries_at self.old q) }
+        ensures size { IsSameSize self.old self.new }
+    {
+        let (asked, is_asked) = split_if(asked);
+        self.write_run(task, runner, asked, is_asked);
     }
 
     /// One more task, for which there is room.
@@ -242,6 +310,7 @@ impl<K: Copy> Entries<K> {
     }
 
     /// Takes a task out.
+    #[inline(always)]
     pub fn remove(&mut self, task: u128) -> Entry<K>
         requires { IsSome (entries_at self.old task) }
         ensures entry { entries_at self.old task ≡ Some result }
@@ -256,6 +325,7 @@ impl<K: Copy> Entries<K> {
 
 impl<K: Copy> Entry<K> {
     /// The input at a place, counted from 0, if there is one.
+    #[inline(always)]
     pub fn input(&self, place: u32) -> Option<Place>
         requires { self.now.count ≤ 4 }
         ensures input { result ≡ slice_get (inputs_of self.now) place }
@@ -271,9 +341,10 @@ impl<K: Copy> Entry<K> {
 
 impl<K: Copy> Entries<K> {
     /// What is kept of a task, if there is one.
-    pub fn find(&self, task: u128) -> Option<Kept<K>>
-        ensures { option_map opened result ≡ entries_at self.now task }
+    #[inline(always)]
+    pub fn find(&self, task: u128) -> Option<&Kept<K>>
+        ensures { option_map (λ kept. opened kept.now) result ≡ entries_at self.now task }
     {
-        self.tasks.get(&task).copied()
+        self.tasks.get(&task)
     }
 }

@@ -1,10 +1,10 @@
 // Entries of tasks as they are kept: numbers in halves, so that nothing is aligned to 16 bytes, and few bytes for what may be
 // missing. Fields stand by falling alignment.
-ghost use Rattle.std.specs.Prelude.{◌≡◌, ◌≤◌, map as each};
+ghost use Rattle.std.specs.Prelude.{◌≡◌, ◌≤◌, map as each, set, slice_get, Some, IsSome};
 ghost use Rattle.task_links.specs.declared.entries.Place.TheVariants.{Awaits};
 ghost use Rattle.std.specs.List.{list_any};
 ghost use Rattle.task_states.specs.States.{is_awaiting, status_of};
-ghost use Rattle.task_links.specs.Inside.{shown_place, shown_entry};
+ghost use Rattle.task_links.specs.Inside.{shown_place, shown_entry, inputs_of};
 ghost use Rattle.task_links.specs.Kept.{joined, joined_if, opened_place, first_in, last_in, opened};
 
 use crate::entries::{Entry, Link, Place, Spot};
@@ -57,6 +57,7 @@ pub struct Kept<K> {
 const HALF: u128 = 0x1_0000_0000_0000_0000;
 
 // A number in halves.
+#[inline(always)]
 fn split(number: u128) -> Halves
     ensures { joined result ≡ number }
 {
@@ -67,6 +68,7 @@ fn split(number: u128) -> Halves
 }
 
 // The number of two halves.
+#[inline(always)]
 fn whole(halves: Halves) -> u128
     ensures { result ≡ joined halves }
 {
@@ -74,6 +76,7 @@ fn whole(halves: Halves) -> u128
 }
 
 // A number that may be missing, in halves, and whether it is there.
+#[inline(always)]
 pub(crate) fn split_if(number: Option<u128>) -> (Halves, bool)
     ensures { joined_if result.0 result.1 ≡ number }
 {
@@ -84,6 +87,7 @@ pub(crate) fn split_if(number: Option<u128>) -> (Halves, bool)
 }
 
 // The number of two halves, if it is there.
+#[inline(always)]
 fn whole_if(halves: Halves, there: bool) -> Option<u128>
     ensures { result ≡ joined_if halves there }
 {
@@ -91,6 +95,7 @@ fn whole_if(halves: Halves, there: bool) -> Option<u128>
 }
 
 // An awaiting input as it is kept.
+#[inline(always)]
 fn kept_link(link: Link) -> KeptPlace
     ensures { opened_place result ≡ Awaits link }
 {
@@ -106,6 +111,7 @@ fn kept_link(link: Link) -> KeptPlace
 }
 
 // An input as it is kept.
+#[inline(always)]
 pub(crate) fn kept_place(place: Place) -> KeptPlace
     ensures { opened_place result ≡ place }
 {
@@ -117,6 +123,7 @@ pub(crate) fn kept_place(place: Place) -> KeptPlace
 }
 
 // An input that is kept.
+#[inline(always)]
 pub(crate) fn place(kept: KeptPlace) -> Place
     ensures { result ≡ opened_place kept }
 {
@@ -149,6 +156,7 @@ pub(crate) fn place(kept: KeptPlace) -> Place
 }
 
 // The ends of a list as they are kept.
+#[inline(always)]
 pub(crate) fn kept_ends(first: Option<Spot>, last: Option<Spot>) -> KeptEnds
     ensures first { first_in result ≡ first }
     ensures last { last_in result ≡ last }
@@ -168,6 +176,7 @@ pub(crate) fn kept_ends(first: Option<Spot>, last: Option<Spot>) -> KeptEnds
 }
 
 // An input by its task in halves and its place.
+#[inline(always)]
 fn spot(task: Halves, place: u32) -> Spot
     ensures { result ≡ record { task = joined task; place = place } }
 {
@@ -178,6 +187,7 @@ fn spot(task: Halves, place: u32) -> Spot
 }
 
 // The first input of a list.
+#[inline(always)]
 fn first(ends: KeptEnds) -> Option<Spot>
     ensures { result ≡ first_in ends }
 {
@@ -190,6 +200,7 @@ fn first(ends: KeptEnds) -> Option<Spot>
 }
 
 // The last input of a list.
+#[inline(always)]
 fn last(ends: KeptEnds) -> Option<Spot>
     ensures { result ≡ last_in ends }
 {
@@ -202,6 +213,7 @@ fn last(ends: KeptEnds) -> Option<Spot>
 }
 
 // Inputs as they are kept.
+#[inline(always)]
 fn kept_places(places: &[Place; 4]) -> [KeptPlace; 4]
     ensures { each opened_place result ≡ places.now }
 {
@@ -214,6 +226,7 @@ fn kept_places(places: &[Place; 4]) -> [KeptPlace; 4]
 }
 
 // Inputs that are kept.
+#[inline(always)]
 fn places(kept: &[KeptPlace; 4]) -> [Place; 4]
     ensures { result ≡ each opened_place kept.now }
 {
@@ -227,6 +240,7 @@ fn places(kept: &[KeptPlace; 4]) -> [Place; 4]
 
 impl KeptPlace {
     // Whether the input awaits a task.
+    #[inline(always)]
     fn is_awaiting(&self) -> bool
         ensures { result ≡ is_awaiting (shown_place (opened_place self.now)) }
     {
@@ -248,6 +262,7 @@ fn any_awaits(places: &[KeptPlace]) -> bool
 
 impl<K: Copy> Kept<K> {
     /// Whether an input awaits a task.
+    #[inline(always)]
     pub fn is_waiting(&self) -> bool
         requires { self.now.count ≤ 4 }
         ensures { result ≡ list_any is_awaiting (shown_entry (opened self.now)).inputs }
@@ -256,6 +271,7 @@ impl<K: Copy> Kept<K> {
     }
 
     /// How far the task is.
+    #[inline(always)]
     pub fn status(&self) -> TaskStatus
         requires { self.now.count ≤ 4 }
         ensures { result ≡ status_of (shown_entry (opened self.now)) }
@@ -270,13 +286,33 @@ impl<K: Copy> Kept<K> {
     }
 
     /// The task that follows among those of the caller, if there is one.
+    #[inline(always)]
     pub fn follower(&self) -> Option<u128>
         ensures { result ≡ (opened self.now).after }
     {
         whole_if(self.after, self.has_after)
     }
 
+    // The input at a place, as it is kept.
+    #[inline(always)]
+    pub(crate) fn place(&self, place: u32) -> KeptPlace
+        requires { IsSome (slice_get (inputs_of (opened self.now)) place) }
+        ensures { slice_get (inputs_of (opened self.now)) place ≡ Some (opened_place result) }
+    {
+        self.places[place as usize]
+    }
+
+    // Writes the input at a place.
+    #[inline(always)]
+    pub(crate) fn set_place(&mut self, place: u32, kept: KeptPlace)
+        requires { IsSome (slice_get (inputs_of (opened self.old)) place) }
+        ensures { opened self.new ≡ record (opened self.old) { places = set (opened self.old).places place (opened_place kept) } }
+    {
+        self.places[place as usize] = kept;
+    }
+
     /// An entry as it is kept.
+    #[inline(always)]
     pub fn of(entry: &Entry<K>) -> Kept<K>
         ensures { opened result ≡ entry.now }
     {
@@ -300,6 +336,7 @@ impl<K: Copy> Kept<K> {
     }
 
     /// The entry.
+    #[inline(always)]
     pub fn open(&self) -> Entry<K>
         ensures { result ≡ opened self.now }
     {

@@ -8,7 +8,7 @@ use Rattle.task_graph.proofs.parts.Parts.next_of.Goals as goal
 pub returns-then-kept-caller : goal.returns-then-kept-caller
 returns-then-kept-caller g c =
     subst (λ (o : Option ℕ). IsLeastOf (IsLater (graph_of c.args.self.now) c.args.caller c.args.after) o) (sym c.follower.ensures)
-    (after_found c.args.self.now c.requires.whole c.args.after (opened c.in-Some.kept) c.args.caller (sym c.in-Some.ensures) c.if-kept-caller.true)
+    (after_found c.args.self.now c.requires.whole c.args.after (opened c.in-Some.kept.now) c.args.caller (sym c.in-Some.ensures) c.if-kept-caller.true)
 
 pub above-requires-clause-last : goal.above-requires-clause-last
 above-requires-clause-last g c = last_greatest c.args.self.now c.requires.whole c.args.caller c.get-row.result c.in-Some-last.last c.get-row.ensures c.in-Some-last.is

@@ -7,4 +7,4 @@ pub returns-in-None : goal.returns-in-None
 returns-in-None g c = sym (status_none c.args.self.now c.args.task (sym c.in-None.ensures))
 
 pub returns-in-Some : goal.returns-in-Some
-returns-in-Some g c = c.status.ensures ∙ sym (status_there c.args.self.now c.args.task (opened c.in-Some.kept) (sym c.in-Some.ensures))
+returns-in-Some g c = c.status.ensures ∙ sym (status_there c.args.self.now c.args.task (opened c.in-Some.kept.now) (sym c.in-Some.ensures))

@@ -10,7 +10,7 @@ use Rattle.task_graph.proofs.tasks.Tasks.awaiter.Goals as goal
 
 pub awaiter-requires-clause-there : goal.awaiter-requires-clause-there
 awaiter-requires-clause-there g c =
-    some_is (task_at (graph_of c.self.inside.held.parts) c.args.task) _ (task_there c.self.inside.held.parts c.args.task (opened c.in-Some.field-0) (sym c.find.ensures ∙ ap (option_map opened) c.in-Some.is))
+    some_is (task_at (graph_of c.self.inside.held.parts) c.args.task) _ (task_there c.self.inside.held.parts c.args.task (opened c.in-Some.field-0.now) (sym c.find.ensures ∙ ap (option_map (λ kept. opened kept.now)) c.in-Some.is))
 
 pub returns-in-None : goal.returns-in-None
 returns-in-None g c = rw (← c.self.view_is) (strange c.self.inside.held.parts c.args.task c.self.invariant.whole (sym c.in-None.ensures))

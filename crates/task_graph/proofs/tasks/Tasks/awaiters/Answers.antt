@@ -11,7 +11,7 @@ use Rattle.task_graph.proofs.tasks.Tasks.awaiters.Goals as goal
 
 pub awaiters-requires-clause-there : goal.awaiters-requires-clause-there
 awaiters-requires-clause-there g c =
-    some_is (task_at (graph_of c.self.inside.held.parts) c.args.task) _ (task_there c.self.inside.held.parts c.args.task (opened c.in-Some.field-0) (sym c.find.ensures ∙ ap (option_map opened) c.in-Some.is))
+    some_is (task_at (graph_of c.self.inside.held.parts) c.args.task) _ (task_there c.self.inside.held.parts c.args.task (opened c.in-Some.field-0.now) (sym c.find.ensures ∙ ap (option_map (λ kept. opened kept.now)) c.in-Some.is))
 
 pub returns-in-None-clause-some : goal.returns-in-None-clause-some
 returns-in-None-clause-some g c =
