@@ -100,7 +100,7 @@ goal_there entries sound =
     let b = entries.leaf in
     let h = entries.height in
     ap is_there (goal_any b Assign h (list_of entries ∷ []) (fits entries sound))
-    ∙ is_there_some b h (block_listed entries.symmetric (side_of b h) entries.list) (sound_some b h entries sound)
+    ∙ is_there_some b h (block_listed entries.symmetric (side_of b h) entries.list) (sound_some b h false entries sound)
 
 -- a tree that came while a list was registered came without it
 given_around : (names later : Names) (id : Id) (tree list : Tree MatChunk) (r : Ref) → map.get names id.number ≡ None

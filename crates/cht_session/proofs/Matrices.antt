@@ -234,7 +234,7 @@ module _ (b h : ℕ) where
   pub listed_some : (m : Matrix) (entries : Entries) → IsMatrix m → height m ≤ side_of b h → m.columns ≤ side_of b h → IsListOf b h m (Some entries) → is_zero m ≡ false
   listed_some m entries whole rows columns (sound, block) =
       ne_eqb (peak_of m) 0 (λ flat.
-      sound_some b h entries sound
+      sound_some b h false entries sound
       (ap (λ mirrored. peak_of (block_listed mirrored (side_of b h) entries.list)) sound.symmetric ∙ ap peak_of block ∙ peak-completed (side_of b h) m whole rows columns ∙ flat))
 
   -- and its work is that of the list

@@ -15,7 +15,7 @@ use Rattle.quad_matrix.specs.declared.chunk.MatChunk.{MatChunk}
 use Rattle.quad_matrix.specs.declared.chunk.MatChunk.TheVariants as chunk
 use Rattle.quad_matrix.specs.declared.chunk.Entries.{Entries}
 use Rattle.quad_matrix.specs.declared.kind.What.{What}
-use Rattle.quad_matrix.specs.declared.kind.What.TheVariants.{Assign, Add, Mul, TMul, MulT, Transpose, Join, Trace, AddNum, SAssign, SAdd, Full, SJoin, STrace}
+use Rattle.quad_matrix.specs.declared.kind.What.TheVariants.{Assign, Add, Mul, TMul, MulT, Transpose, Join, Trace, AddNum, SAssign, SAdd, Square, RankMul, TRank, SMul, MulS, Full, SJoin, STrace}
 use Rattle.quad_matrix.specs.declared.kind.MatKind.{MatKind}
 use Rattle.quad_matrix.specs.Chunks.{arity_of}
 use Rattle.quad_matrix.specs.Blocks.{IsCanonical}
@@ -77,6 +77,11 @@ at_height : (what : What) (h : ℕ) (inputs : Inputs MatChunk) → IsTrue (is_ge
 at_height Join h inputs serves e there trees shows d = absurd (e refl)
 at_height SAssign h inputs serves e there trees shows d = absurd (false≢true serves)
 at_height SAdd h inputs serves e there trees shows d = absurd (false≢true serves)
+at_height Square h inputs serves e there trees shows d = absurd (false≢true serves)
+at_height RankMul h inputs serves e there trees shows d = absurd (false≢true serves)
+at_height TRank h inputs serves e there trees shows d = absurd (false≢true serves)
+at_height SMul h inputs serves e there trees shows d = absurd (false≢true serves)
+at_height MulS h inputs serves e there trees shows d = absurd (false≢true serves)
 at_height Full h inputs serves e there trees shows d = absurd (false≢true serves)
 at_height SJoin h inputs serves e there trees shows d = absurd (false≢true serves)
 at_height STrace h inputs serves e there trees shows d = absurd (false≢true serves)
@@ -164,6 +169,11 @@ portions_at : (what : What) (h : ℕ) (inputs : Inputs MatChunk) → IsTrue (is_
 portions_at Join h inputs serves e trees shows d = absurd (e refl)
 portions_at SAssign h inputs serves e trees shows d = absurd (false≢true serves)
 portions_at SAdd h inputs serves e trees shows d = absurd (false≢true serves)
+portions_at Square h inputs serves e trees shows d = absurd (false≢true serves)
+portions_at RankMul h inputs serves e trees shows d = absurd (false≢true serves)
+portions_at TRank h inputs serves e trees shows d = absurd (false≢true serves)
+portions_at SMul h inputs serves e trees shows d = absurd (false≢true serves)
+portions_at MulS h inputs serves e trees shows d = absurd (false≢true serves)
 portions_at Full h inputs serves e trees shows d = absurd (false≢true serves)
 portions_at SJoin h inputs serves e trees shows d = absurd (false≢true serves)
 portions_at STrace h inputs serves e trees shows d = absurd (false≢true serves)

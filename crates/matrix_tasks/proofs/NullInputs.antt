@@ -12,7 +12,7 @@ use Rattle.task_types.specs.Sound.{IsSound}
 use Rattle.task_types.proofs.Shown.{presences_in-shown}
 use Rattle.quad_matrix.specs.declared.chunk.MatChunk.{MatChunk}
 use Rattle.quad_matrix.specs.declared.kind.What.{What}
-use Rattle.quad_matrix.specs.declared.kind.What.TheVariants.{Assign, Add, Mul, TMul, MulT, Transpose, Join, Trace, AddNum, SAssign, SAdd, Full, SJoin, STrace}
+use Rattle.quad_matrix.specs.declared.kind.What.TheVariants.{Assign, Add, Mul, TMul, MulT, Transpose, Join, Trace, AddNum, SAssign, SAdd, Square, RankMul, TRank, SMul, MulS, Full, SJoin, STrace}
 use Rattle.quad_matrix.specs.Chunks.{arity_of}
 use Rattle.quad_matrix.specs.Goals.{kind_of, FitsAt, IsDefined}
 use Rattle.quad_matrix.specs.Matrices.{matrices}
@@ -49,6 +49,11 @@ null_at : (b : ℕ) (what : What) (h : ℕ) (trees : List (Tree MatChunk)) → I
 null_at b Join h trees serves other low fits null = absurd (other refl)
 null_at b SAssign h trees serves other low fits null = absurd (false≢true serves)
 null_at b SAdd h trees serves other low fits null = absurd (false≢true serves)
+null_at b Square h trees serves other low fits null = absurd (false≢true serves)
+null_at b RankMul h trees serves other low fits null = absurd (false≢true serves)
+null_at b TRank h trees serves other low fits null = absurd (false≢true serves)
+null_at b SMul h trees serves other low fits null = absurd (false≢true serves)
+null_at b MulS h trees serves other low fits null = absurd (false≢true serves)
 null_at b Full h trees serves other low fits null = absurd (false≢true serves)
 null_at b SJoin h trees serves other low fits null = absurd (false≢true serves)
 null_at b STrace h trees serves other low fits null = absurd (false≢true serves)

@@ -17,7 +17,7 @@ use Rattle.quad_matrix.specs.declared.chunk.MatChunk.TheVariants.{Leaf, Node, Nu
 use Rattle.quad_matrix.specs.declared.chunk.MatChunk.TheVariants as chunk
 use Rattle.quad_matrix.specs.declared.chunk.Entries.{Entries}
 use Rattle.quad_matrix.specs.declared.kind.What.{What}
-use Rattle.quad_matrix.specs.declared.kind.What.TheVariants.{Assign, Add, Mul, TMul, MulT, Transpose, Join, Trace, AddNum, SAssign, SAdd, Full, SJoin, STrace}
+use Rattle.quad_matrix.specs.declared.kind.What.TheVariants.{Assign, Add, Mul, TMul, MulT, Transpose, Join, Trace, AddNum, SAssign, SAdd, Square, RankMul, TRank, SMul, MulS, Full, SJoin, STrace}
 use Rattle.quad_matrix.specs.declared.kind.MatKind.{MatKind}
 use Rattle.quad_matrix.specs.Spots.{AreSoundEntries, block_of_spots}
 use Rattle.quad_matrix.specs.Chunks.{peak_in}
@@ -39,6 +39,11 @@ is_general Trace = true
 is_general AddNum = true
 is_general SAssign = false
 is_general SAdd = false
+is_general Square = false
+is_general RankMul = false
+is_general TRank = false
+is_general SMul = false
+is_general MulS = false
 is_general Full = false
 is_general SJoin = false
 is_general STrace = false
@@ -96,6 +101,11 @@ null_place Trace known = Null
 null_place AddNum known = other_place known
 null_place SAssign known = Null
 null_place SAdd known = Null
+null_place Square known = Null
+null_place RankMul known = Null
+null_place TRank known = Null
+null_place SMul known = Null
+null_place MulS known = Null
 null_place Full known = Null
 null_place SJoin known = Null
 null_place STrace known = Null

@@ -30,6 +30,7 @@ pub fn is_general(what: What) -> bool
         What::Assign | What::Add | What::Mul | What::TMul | What::MulT => true,
         What::Transpose | What::Join | What::Trace | What::AddNum => true,
         What::SAssign | What::SAdd | What::Full | What::SJoin | What::STrace => false,
+        What::Square | What::RankMul | What::TRank | What::SMul | What::MulS => false,
     }
 }
 
@@ -80,5 +81,6 @@ fn at_height_0(
         What::Join => nodes::join(alloc, kind.height, inputs),
         // Kinds of symmetric matrices are not served here.
         What::SAssign | What::SAdd | What::Full | What::SJoin | What::STrace => Err(Memory),
+        What::Square | What::RankMul | What::TRank | What::SMul | What::MulS => Err(Memory),
     }
 }

@@ -17,5 +17,6 @@ pub(crate) fn null_place(what: What, inputs: &Inputs<MatChunk>) -> Place
         What::Mul | What::TMul | What::MulT | What::Transpose => Place::Null,
         // Kinds of symmetric matrices are not served here.
         What::SAssign | What::SAdd | What::Full | What::SJoin | What::STrace => Place::Null,
+        What::Square | What::RankMul | What::TRank | What::SMul | What::MulS => Place::Null,
     }
 }

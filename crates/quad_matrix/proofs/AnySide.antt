@@ -4,7 +4,7 @@ use Rattle.std.specs.List.{AllByRecursion}
 use Rattle.task_types.specs.Tree.{Tree, Nothing, Root}
 use Rattle.quad_matrix.specs.declared.chunk.MatChunk.{MatChunk}
 use Rattle.quad_matrix.specs.declared.kind.What.{What}
-use Rattle.quad_matrix.specs.declared.kind.What.TheVariants.{Assign, Add, Mul, TMul, MulT, Transpose, Join, Trace, AddNum, SAssign, SAdd, Full, SJoin, STrace}
+use Rattle.quad_matrix.specs.declared.kind.What.TheVariants.{Assign, Add, Mul, TMul, MulT, Transpose, Join, Trace, AddNum, SAssign, SAdd, Square, RankMul, TRank, SMul, MulS, Full, SJoin, STrace}
 use Rattle.chunk_codec.specs.Spots.{side_of}
 use Rattle.quad_matrix.specs.Blocks.{leaf_in, block_of, IsCanonical, IsCanonicalSymmetric}
 use Rattle.quad_matrix.specs.Goals.{kind_of, goal_at, goal_of, FitsAt}
@@ -18,6 +18,7 @@ use Rattle.quad_matrix.proofs.Products.{product_goal_is, product_nothing_with}
 use Rattle.quad_matrix.proofs.Transposes.{transpose_of_nothing}
 use Rattle.quad_matrix.proofs.SymmetricJoins.{symmetric_join_fits, symmetric_join_goal_nothing}
 use Rattle.quad_matrix.proofs.SymmetricSums.{symmetric_add_nothing, full_of_nothing}
+use Rattle.quad_matrix.proofs.SymmetricProducts.{square_of_nothing, rank_of_nothing, transposed_rank_of_nothing, symmetric_first_nothing, symmetric_second_nothing}
 use Rattle.quad_matrix.proofs.Numbers.{trace_of_nothing}
 
 -- the goal of an assignment of nothing is nothing
@@ -135,6 +136,25 @@ goal_any b SAdd h (x ∷ y ∷ []) fits = symmetric_add_any b h x y fits.0 fits.
 goal_any b SAdd h [] fits = absurd fits
 goal_any b SAdd h (x ∷ []) fits = absurd fits
 goal_any b SAdd h (x ∷ y ∷ z ∷ trees) fits = absurd fits
+goal_any b Square h (x ∷ []) fits = at_leaf b Square h (x ∷ []) (leaf_of_symmetric b h x fits.0, tt) (λ c none. rw none.0 (square_of_nothing c h))
+goal_any b Square h [] fits = absurd fits
+goal_any b Square h (x ∷ y ∷ trees) fits = absurd fits
+goal_any b RankMul h (x ∷ []) fits = at_leaf b RankMul h (x ∷ []) (leaf_of_canonical b h x fits.0, tt) (λ c none. rw none.0 (rank_of_nothing c h))
+goal_any b RankMul h [] fits = absurd fits
+goal_any b RankMul h (x ∷ y ∷ trees) fits = absurd fits
+goal_any b TRank h (x ∷ []) fits = at_leaf b TRank h (x ∷ []) (leaf_of_canonical b h x fits.0, tt) (λ c none. rw none.0 (transposed_rank_of_nothing c h))
+goal_any b TRank h [] fits = absurd fits
+goal_any b TRank h (x ∷ y ∷ trees) fits = absurd fits
+goal_any b SMul h (x ∷ y ∷ []) fits =
+    at_leaf b SMul h (x ∷ y ∷ []) (leaf_of_symmetric b h x fits.0, (leaf_of_canonical b h y fits.1, tt)) (λ c none. rw (none.0, none.1.0) (symmetric_first_nothing c h))
+goal_any b SMul h [] fits = absurd fits
+goal_any b SMul h (x ∷ []) fits = absurd fits
+goal_any b SMul h (x ∷ y ∷ z ∷ trees) fits = absurd fits
+goal_any b MulS h (x ∷ y ∷ []) fits =
+    at_leaf b MulS h (x ∷ y ∷ []) (leaf_of_canonical b h x fits.0, (leaf_of_symmetric b h y fits.1, tt)) (λ c none. rw (none.0, none.1.0) (symmetric_second_nothing c h))
+goal_any b MulS h [] fits = absurd fits
+goal_any b MulS h (x ∷ []) fits = absurd fits
+goal_any b MulS h (x ∷ y ∷ z ∷ trees) fits = absurd fits
 goal_any b Full h (x ∷ []) fits = full_any b h x fits
 goal_any b Full h [] fits = absurd fits
 goal_any b Full h (x ∷ y ∷ trees) fits = absurd fits

@@ -17,6 +17,8 @@ pub use Rattle.quad_matrix.proofs.Lists.{spots_whole, spots_tall, assign_canonic
 pub use Rattle.quad_matrix.proofs.AnySide.{goal_any, assign_nothing, symmetric_assign_nothing, join_goal_nothing}
 pub use Rattle.quad_matrix.proofs.Sums.{add_canonical, fits_join, join_goal, join_fits, child_sum, add_on_children, add_is_join, add_with_nothing, add_nothing_with, add_nothing}
 pub use Rattle.quad_matrix.proofs.Numbers.{trace_first, trace_last, trace_fits, trace_on_children, trace_of_nothing, addnum_with_nothing, addnum_nothing_with, addnum_is_number}
+-- products with symmetric blocks: their goals
+pub use Rattle.quad_matrix.proofs.SymmetricProducts.{square_canonical, rank_canonical, transposed_rank_canonical, symmetric_first_canonical, symmetric_second_canonical, square_of_nothing, rank_of_nothing, transposed_rank_of_nothing, symmetric_first_nothing, symmetric_second_nothing}
 -- symmetric goals by children
 pub use Rattle.quad_matrix.proofs.SymmetricChildren.{symmetric_add_on_first, symmetric_add_on_second, symmetric_add_on_third, symmetric_sums_fit_join, symmetric_add_is_join, full_parts_fit_join, full_is_join, symmetric_trace_first, symmetric_trace_last, symmetric_trace_fits, symmetric_trace_on_children}
 -- the three products, over how their factors stand, and transposes

@@ -9,6 +9,7 @@ pub mod Products
 pub mod Transposes
 pub mod SymmetricJoins
 pub mod SymmetricSums
+pub mod SymmetricProducts
 pub mod Numbers
 pub mod SymmetricChildren
 pub mod AnySide
@@ -20,6 +21,7 @@ pub mod DraftWorks
 pub mod AddWorks
 pub mod ProductWorks
 pub mod SymmetricWorks
+pub mod SymmetricProductWorks
 pub mod AssignParts
 pub mod AssignWorks
 pub mod SymmetricAssignWorks

@@ -12,7 +12,7 @@ use Rattle.quad_matrix.specs.declared.chunk.Entries.{Entries}
 use Rattle.quad_matrix.specs.declared.chunk.MatChunk.{MatChunk}
 use Rattle.quad_matrix.specs.declared.chunk.MatChunk.TheVariants as chunk
 use Rattle.quad_matrix.specs.declared.kind.What.{What}
-use Rattle.quad_matrix.specs.declared.kind.What.TheVariants.{Assign, Add, Mul, TMul, MulT, Transpose, Join, Trace, AddNum, SAssign, SAdd, Full, SJoin, STrace}
+use Rattle.quad_matrix.specs.declared.kind.What.TheVariants.{Assign, Add, Mul, TMul, MulT, Transpose, Join, Trace, AddNum, SAssign, SAdd, Square, RankMul, TRank, SMul, MulS, Full, SJoin, STrace}
 use Rattle.chunk_codec.specs.Spots.{side_of, IsSpot, IsUpper}
 use Rattle.quad_matrix.specs.Spots.{is_at, spot_value, block_of_spots, mirrored_block, block_listed, AreSoundEntries}
 use Rattle.quad_matrix.specs.Blocks.{block_of, IsCanonical, IsCanonicalSymmetric}
@@ -25,6 +25,7 @@ use Rattle.quad_matrix.proofs.Products.{product_canonical}
 use Rattle.quad_matrix.proofs.Transposes.{transpose_canonical}
 use Rattle.quad_matrix.proofs.SymmetricJoins.{symmetric_join_goal_canonical}
 use Rattle.quad_matrix.proofs.SymmetricSums.{symmetric_add_canonical, full_canonical}
+use Rattle.quad_matrix.proofs.SymmetricProducts.{square_canonical, rank_canonical, transposed_rank_canonical, symmetric_first_canonical, symmetric_second_canonical}
 use Rattle.quad_matrix.proofs.Numbers.{zero_from_abs, trace_is_number, addnum_is_number}
 
 -- the number at each place of a list of entries has 64 bits
@@ -196,6 +197,23 @@ goal_is_canonical b SAdd h (x ∷ y ∷ []) fits = symmetric_add_canonical b h x
 goal_is_canonical b SAdd h [] fits = absurd fits
 goal_is_canonical b SAdd h (x ∷ []) fits = absurd fits
 goal_is_canonical b SAdd h (x ∷ y ∷ z ∷ trees) fits = absurd fits
+goal_is_canonical b Square h (x ∷ []) fits = square_canonical b h x fits
+goal_is_canonical b Square h [] fits = absurd fits
+goal_is_canonical b Square h (x ∷ y ∷ trees) fits = absurd fits
+goal_is_canonical b RankMul h (x ∷ []) fits = rank_canonical b h x fits
+goal_is_canonical b RankMul h [] fits = absurd fits
+goal_is_canonical b RankMul h (x ∷ y ∷ trees) fits = absurd fits
+goal_is_canonical b TRank h (x ∷ []) fits = transposed_rank_canonical b h x fits
+goal_is_canonical b TRank h [] fits = absurd fits
+goal_is_canonical b TRank h (x ∷ y ∷ trees) fits = absurd fits
+goal_is_canonical b SMul h (x ∷ y ∷ []) fits = symmetric_first_canonical b h x y fits
+goal_is_canonical b SMul h [] fits = absurd fits
+goal_is_canonical b SMul h (x ∷ []) fits = absurd fits
+goal_is_canonical b SMul h (x ∷ y ∷ z ∷ trees) fits = absurd fits
+goal_is_canonical b MulS h (x ∷ y ∷ []) fits = symmetric_second_canonical b h x y fits
+goal_is_canonical b MulS h [] fits = absurd fits
+goal_is_canonical b MulS h (x ∷ []) fits = absurd fits
+goal_is_canonical b MulS h (x ∷ y ∷ z ∷ trees) fits = absurd fits
 goal_is_canonical b Full h (x ∷ []) fits = full_canonical b h x fits
 goal_is_canonical b Full h [] fits = absurd fits
 goal_is_canonical b Full h (x ∷ y ∷ trees) fits = absurd fits

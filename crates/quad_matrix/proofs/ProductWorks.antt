@@ -60,7 +60,7 @@ asked_no false work e = refl
 asked_no true work e = absurd (true≢false e)
 
 -- nor has a pair of which no term is there
-pair_no : (a b : Bool) (one other both : ℕ) → (a || b) ≡ false → sum (pair_list a b one other both) ≡ 0
+pub pair_no : (a b : Bool) (one other both : ℕ) → (a || b) ≡ false → sum (pair_list a b one other both) ≡ 0
 pair_no false false one other both e = refl
 pair_no true b one other both e = absurd (true≢false e)
 pair_no false true one other both e = absurd (true≢false e)
@@ -75,7 +75,7 @@ module _ (trees chunks : List (Tree MatChunk)) (low : ℕ) (task : Bool → Bool
       with_pair draft (task lower right false) (task lower right true) (kind_of Add low) (ready lower right false) (ready lower right true)
 
   -- all four
-  abbrev four_pairs : Draft MatKind
+  abbrev pub four_pairs : Draft MatKind
   four_pairs = paired true true (paired true false (paired false true (paired false false no_draft)))
 
   abbrev term_work : Bool → Bool → Bool → ℕ
@@ -124,7 +124,7 @@ module _ (trees chunks : List (Tree MatChunk)) (low : ℕ) (task : Bool → Bool
       pair_no (ready lower right false) (ready lower right true) (term_work lower right false) (term_work lower right true) (add_work low (goal_in lower right false) (goal_in lower right true)) e
 
   -- the works of the four pairs and of their join
-  pairs_total : (height : ℕ) → total trees chunks (ended (kind_at height) (Joined Join) four_pairs) ≡ sum (pair_in false false ++ pair_in false true ++ pair_in true false ++ pair_in true true ++ asked (has_one false false || has_one false true || has_one true false || has_one true true) 1)
+  pub pairs_total : (height : ℕ) → total trees chunks (ended (kind_at height) (Joined Join) four_pairs) ≡ sum (pair_in false false ++ pair_in false true ++ pair_in true false ++ pair_in true true ++ asked (has_one false false || has_one false true || has_one true false || has_one true true) 1)
   pairs_total height =
       ended_work matrices trees chunks (kind_at height) Join four_pairs (λ inputs. refl)
       ∙ ap (λ test. cond test 0 (draft_work trees chunks four_pairs + 1)) pairs_null
@@ -132,7 +132,7 @@ module _ (trees chunks : List (Tree MatChunk)) (low : ℕ) (task : Bool → Bool
       (none_in false false) (none_in false true) (none_in true false) (none_in true true) pairs_work
 
 -- the works of a pair, in either form
-pair_list_is : (a b : Bool) (one other both : ℕ) → pair_list a b one other both ≡ pair_works a b one other both
+pub pair_list_is : (a b : Bool) (one other both : ℕ) → pair_list a b one other both ≡ pair_works a b one other both
 pair_list_is false false one other both = refl
 pair_list_is true false one other both = refl
 pair_list_is false true one other both = refl

@@ -184,7 +184,7 @@ block_of_product b h turned x y fits =
 -- ---- Products with nothing
 
 -- a product with zeros as its first factor
-zeros_first : (turned : Turned) (n : ℕ) (a : Matrix) → IsBlock n a → product_of turned (zeros n n) a ≡ zeros n n
+pub zeros_first : (turned : Turned) (n : ℕ) (a : Matrix) → IsBlock n a → product_of turned (zeros n n) a ≡ zeros n n
 zeros_first Neither n a ia = (times-zeros a n n).1 ∙ ap (zeros n) ia.wide
 zeros_first First n a ia =
     tmul_is (zeros n n) a ∙ ap (λ m. times m a) (transposed-zeros n n) ∙ (times-zeros a n n).1 ∙ ap (zeros n) ia.wide

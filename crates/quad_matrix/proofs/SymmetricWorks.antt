@@ -81,7 +81,7 @@ full_works h x chunks =
 -- ---- Sums of symmetric blocks
 
 -- what some parts and their join come to, where the parts come to nothing if none is there
-ended_sum : (parts : List ℕ) (any : Bool) (all : ℕ) → (any ≡ false → sum parts ≡ 0) → all ≡ sum parts → cond (not any) 0 (all + 1) ≡ sum (parts ++ asked any 1)
+pub ended_sum : (parts : List ℕ) (any : Bool) (all : ℕ) → (any ≡ false → sum parts ≡ 0) → all ≡ sum parts → cond (not any) 0 (all + 1) ≡ sum (parts ++ asked any 1)
 ended_sum parts true all none same =
     let sums : sum (parts ++ 1 ∷ []) ≡ sum parts + 1 = sum-append parts (1 ∷ []) in
     ap (λ n. n + 1) same ∙ sym sums
@@ -91,7 +91,7 @@ ended_sum parts false all none same =
     sym (sums ∙ ap (λ n. n + 0) zero_sum)
 
 -- no part is there where none of three is
-null_three : (a b c : Bool) → (((true && not a) && not b) && not c) ≡ not (a || b || c)
+pub null_three : (a b c : Bool) → (((true && not a) && not b) && not c) ≡ not (a || b || c)
 null_three true b c = refl
 null_three false true c = refl
 null_three false false true = refl

@@ -15,7 +15,7 @@ use Rattle.task_types.specs.Reading.{new_trees}
 use Rattle.task_types.specs.Sound.{IsSound, HasFewInputs, AddsUp, new_work}
 use Rattle.quad_matrix.specs.declared.chunk.MatChunk.{MatChunk}
 use Rattle.quad_matrix.specs.declared.kind.What.{What}
-use Rattle.quad_matrix.specs.declared.kind.What.TheVariants.{Assign, Add, Mul, TMul, MulT, Transpose, Join, Trace, AddNum, SAssign, SAdd, Full, SJoin, STrace}
+use Rattle.quad_matrix.specs.declared.kind.What.TheVariants.{Assign, Add, Mul, TMul, MulT, Transpose, Join, Trace, AddNum, SAssign, SAdd, Square, RankMul, TRank, SMul, MulS, Full, SJoin, STrace}
 use Rattle.quad_matrix.specs.declared.kind.MatKind.{MatKind}
 use Rattle.quad_matrix.specs.Chunks.{arity_of}
 use Rattle.chunk_codec.specs.Spots.{side_of}
@@ -24,7 +24,7 @@ use Rattle.quad_matrix.specs.Goals.{kind_of, kind_at, FitsAt, IsList}
 use Rattle.task_plans.specs.Plans.{planned_shape, choices, choices_of, given_shape, are_null, chunk_shape}
 use Rattle.quad_matrix.specs.Plans.{plan_of, node_shape, joined_shape, symmetric_joined_shape, join_places, symmetric_join_places, null_shape, shapes_of, full_shapes, inputs_of, may_have}
 use Rattle.quad_matrix.specs.Products.{Turned, Neither, First, Second, first_child}
-use Rattle.quad_matrix.specs.Works.{asked, has_number, assign_work, symmetric_assign_work, add_work, symmetric_add_work, trace_work, transpose_work, full_work, product_work, is_term, work_at}
+use Rattle.quad_matrix.specs.Works.{asked, has_number, assign_work, symmetric_assign_work, add_work, symmetric_add_work, trace_work, transpose_work, full_work, symmetric_first_work, symmetric_second_work, rank_work, transposed_rank_work, square_work, product_work, is_term, work_at}
 use Rattle.quad_matrix.specs.Matrices.{matrices}
 use Rattle.quad_matrix.proofs.Sides.{suc-sub_one}
 use Rattle.quad_matrix.proofs.Canonical.{peak-zeros}
@@ -33,6 +33,7 @@ use Rattle.task_plans.proofs.ForOthers.{one_of_cond, one_of_one, one_of_same, on
 use Rattle.quad_matrix.proofs.DraftWorks.{total}
 use Rattle.quad_matrix.proofs.AddWorks.{add_works}
 use Rattle.quad_matrix.proofs.SymmetricWorks.{trace_works, full_works, symmetric_add_works}
+use Rattle.quad_matrix.proofs.SymmetricProductWorks.{symmetric_first_works, symmetric_second_works, rank_works, transposed_rank_works, square_works}
 use Rattle.quad_matrix.proofs.ProductWorks.{product_works, transpose_works}
 use Rattle.quad_matrix.proofs.AssignParts.{assign_shape, symmetric_assign_shape}
 use Rattle.quad_matrix.proofs.AssignWorks.{assign_work_is}
@@ -78,6 +79,23 @@ few_trees b SAdd h (x ∷ y ∷ []) fits = lit≤ tt
 few_trees b SAdd h [] fits = absurd fits
 few_trees b SAdd h (x ∷ []) fits = absurd fits
 few_trees b SAdd h (x ∷ y ∷ z ∷ trees) fits = absurd fits
+few_trees b Square h (x ∷ []) fits = lit≤ tt
+few_trees b Square h [] fits = absurd fits
+few_trees b Square h (x ∷ y ∷ trees) fits = absurd fits
+few_trees b RankMul h (x ∷ []) fits = lit≤ tt
+few_trees b RankMul h [] fits = absurd fits
+few_trees b RankMul h (x ∷ y ∷ trees) fits = absurd fits
+few_trees b TRank h (x ∷ []) fits = lit≤ tt
+few_trees b TRank h [] fits = absurd fits
+few_trees b TRank h (x ∷ y ∷ trees) fits = absurd fits
+few_trees b SMul h (x ∷ y ∷ []) fits = lit≤ tt
+few_trees b SMul h [] fits = absurd fits
+few_trees b SMul h (x ∷ []) fits = absurd fits
+few_trees b SMul h (x ∷ y ∷ z ∷ trees) fits = absurd fits
+few_trees b MulS h (x ∷ y ∷ []) fits = lit≤ tt
+few_trees b MulS h [] fits = absurd fits
+few_trees b MulS h (x ∷ []) fits = absurd fits
+few_trees b MulS h (x ∷ y ∷ z ∷ trees) fits = absurd fits
 few_trees b Full h (x ∷ []) fits = lit≤ tt
 few_trees b Full h [] fits = absurd fits
 few_trees b Full h (x ∷ y ∷ trees) fits = absurd fits
@@ -193,6 +211,43 @@ product_work_second turned (suc h) x =
 transpose_work_nothing : (h : ℕ) → transpose_work h Nothing ≡ 1
 transpose_work_nothing zero = refl
 transpose_work_nothing (suc h) = refl
+
+-- and of symmetric products of nothing
+square_work_nothing : (h : ℕ) → square_work h Nothing ≡ 1
+square_work_nothing zero = refl
+square_work_nothing (suc h) = refl
+
+rank_work_nothing : (h : ℕ) → rank_work h Nothing ≡ 1
+rank_work_nothing zero = refl
+rank_work_nothing (suc h) = refl
+
+transposed_rank_work_nothing : (h : ℕ) → transposed_rank_work h Nothing ≡ 1
+transposed_rank_work_nothing zero = refl
+transposed_rank_work_nothing (suc h) = refl
+
+-- a test and false
+and_false : (b : Bool) → (b && false) ≡ false
+and_false true = refl
+and_false false = refl
+
+-- and of products with a symmetric factor, of which one factor is nothing
+symmetric_first_work_no_first : (h : ℕ) (y : Tree MatChunk) → symmetric_first_work h Nothing y ≡ 1
+symmetric_first_work_no_first zero y = refl
+symmetric_first_work_no_first (suc h) y = refl
+
+symmetric_first_work_no_second : (h : ℕ) (x : Tree MatChunk) → symmetric_first_work h x Nothing ≡ 1
+symmetric_first_work_no_second zero x = refl
+symmetric_first_work_no_second (suc h) x =
+    rw (and_false (is_there (child x 0)), and_false (is_there (child x 1)), and_false (is_there (child x 2))) refl
+
+symmetric_second_work_no_first : (h : ℕ) (y : Tree MatChunk) → symmetric_second_work h Nothing y ≡ 1
+symmetric_second_work_no_first zero y = refl
+symmetric_second_work_no_first (suc h) y = refl
+
+symmetric_second_work_no_second : (h : ℕ) (x : Tree MatChunk) → symmetric_second_work h x Nothing ≡ 1
+symmetric_second_work_no_second zero x = refl
+symmetric_second_work_no_second (suc h) x =
+    rw (and_false (is_there (child x 0)), and_false (is_there (child x 1)), and_false (is_there (child x 2)), and_false (is_there (child x 3))) refl
 
 -- a join asks no tasks
 node_total : (trees chunks : List (Tree MatChunk)) (places : List Place) → total trees chunks (node_shape places) ≡ 0
@@ -379,6 +434,65 @@ works_at b SAdd (suc h) (Root k x y z w ∷ Root l p q r s ∷ []) chunks shape 
 works_at b SAdd h [] chunks shape fits other more e = absurd fits
 works_at b SAdd h (x ∷ []) chunks shape fits other more e = absurd fits
 works_at b SAdd h (x ∷ y ∷ z ∷ trees) chunks shape fits other more e = absurd fits
+works_at b Square h (Nothing ∷ []) chunks shape fits other more e =
+    square_work_nothing h ∙ no_tasks (Nothing ∷ []) chunks shape (given_shape Null) refl (one_of_one shape (given_shape Null) e)
+works_at b Square zero (Root k x y z w ∷ []) chunks shape fits other more e = low_tasks (Root k x y z w ∷ []) chunks shape e
+works_at b Square (suc h) (Root k x y z w ∷ []) chunks shape fits other more e =
+    let known = presence_of (Root k x y z w) ∷ [] in
+    same_work (Root k x y z w ∷ []) chunks shape (planned_shape kind_at (suc h) (plan_of Square) known Absent) (square_work (suc h) (Root k x y z w))
+    (square_works h (Root k x y z w) chunks) (one_of_one shape (planned_shape kind_at (suc h) (plan_of Square) known Absent) e)
+works_at b Square h [] chunks shape fits other more e = absurd fits
+works_at b Square h (x ∷ y ∷ trees) chunks shape fits other more e = absurd fits
+works_at b RankMul h (Nothing ∷ []) chunks shape fits other more e =
+    rank_work_nothing h ∙ no_tasks (Nothing ∷ []) chunks shape (given_shape Null) refl (one_of_one shape (given_shape Null) e)
+works_at b RankMul zero (Root k x y z w ∷ []) chunks shape fits other more e = low_tasks (Root k x y z w ∷ []) chunks shape e
+works_at b RankMul (suc h) (Root k x y z w ∷ []) chunks shape fits other more e =
+    let known = presence_of (Root k x y z w) ∷ [] in
+    same_work (Root k x y z w ∷ []) chunks shape (planned_shape kind_at (suc h) (plan_of RankMul) known Absent) (rank_work (suc h) (Root k x y z w))
+    (rank_works h (Root k x y z w) chunks) (one_of_one shape (planned_shape kind_at (suc h) (plan_of RankMul) known Absent) e)
+works_at b RankMul h [] chunks shape fits other more e = absurd fits
+works_at b RankMul h (x ∷ y ∷ trees) chunks shape fits other more e = absurd fits
+works_at b TRank h (Nothing ∷ []) chunks shape fits other more e =
+    transposed_rank_work_nothing h ∙ no_tasks (Nothing ∷ []) chunks shape (given_shape Null) refl (one_of_one shape (given_shape Null) e)
+works_at b TRank zero (Root k x y z w ∷ []) chunks shape fits other more e = low_tasks (Root k x y z w ∷ []) chunks shape e
+works_at b TRank (suc h) (Root k x y z w ∷ []) chunks shape fits other more e =
+    let known = presence_of (Root k x y z w) ∷ [] in
+    same_work (Root k x y z w ∷ []) chunks shape (planned_shape kind_at (suc h) (plan_of TRank) known Absent) (transposed_rank_work (suc h) (Root k x y z w))
+    (transposed_rank_works h (Root k x y z w) chunks) (one_of_one shape (planned_shape kind_at (suc h) (plan_of TRank) known Absent) e)
+works_at b TRank h [] chunks shape fits other more e = absurd fits
+works_at b TRank h (x ∷ y ∷ trees) chunks shape fits other more e = absurd fits
+works_at b SMul h (Nothing ∷ y ∷ []) chunks shape fits other more e =
+    symmetric_first_work_no_first h y ∙ no_tasks (Nothing ∷ y ∷ []) chunks shape (given_shape Null) refl (one_of_one shape (given_shape Null) e)
+works_at b SMul h (Root k x y z w ∷ Nothing ∷ []) chunks shape fits other more e =
+    symmetric_first_work_no_second h (Root k x y z w)
+    ∙ no_tasks (Root k x y z w ∷ Nothing ∷ []) chunks shape (given_shape Null) refl (one_of_one shape (given_shape Null) e)
+works_at b SMul zero (Root k x y z w ∷ Root l p q r s ∷ []) chunks shape fits other more e =
+    low_tasks (Root k x y z w ∷ Root l p q r s ∷ []) chunks shape e
+works_at b SMul (suc h) (Root k x y z w ∷ Root l p q r s ∷ []) chunks shape fits other more e =
+    let first = Root k x y z w in
+    let second = Root l p q r s in
+    let known = presence_of first ∷ presence_of second ∷ [] in
+    same_work (first ∷ second ∷ []) chunks shape (planned_shape kind_at (suc h) (plan_of SMul) known Absent) (symmetric_first_work (suc h) first second)
+    (symmetric_first_works h first second chunks) (one_of_one shape (planned_shape kind_at (suc h) (plan_of SMul) known Absent) e)
+works_at b SMul h [] chunks shape fits other more e = absurd fits
+works_at b SMul h (x ∷ []) chunks shape fits other more e = absurd fits
+works_at b SMul h (x ∷ y ∷ z ∷ trees) chunks shape fits other more e = absurd fits
+works_at b MulS h (Nothing ∷ y ∷ []) chunks shape fits other more e =
+    symmetric_second_work_no_first h y ∙ no_tasks (Nothing ∷ y ∷ []) chunks shape (given_shape Null) refl (one_of_one shape (given_shape Null) e)
+works_at b MulS h (Root k x y z w ∷ Nothing ∷ []) chunks shape fits other more e =
+    symmetric_second_work_no_second h (Root k x y z w)
+    ∙ no_tasks (Root k x y z w ∷ Nothing ∷ []) chunks shape (given_shape Null) refl (one_of_one shape (given_shape Null) e)
+works_at b MulS zero (Root k x y z w ∷ Root l p q r s ∷ []) chunks shape fits other more e =
+    low_tasks (Root k x y z w ∷ Root l p q r s ∷ []) chunks shape e
+works_at b MulS (suc h) (Root k x y z w ∷ Root l p q r s ∷ []) chunks shape fits other more e =
+    let first = Root k x y z w in
+    let second = Root l p q r s in
+    let known = presence_of first ∷ presence_of second ∷ [] in
+    same_work (first ∷ second ∷ []) chunks shape (planned_shape kind_at (suc h) (plan_of MulS) known Absent) (symmetric_second_work (suc h) first second)
+    (symmetric_second_works h first second chunks) (one_of_one shape (planned_shape kind_at (suc h) (plan_of MulS) known Absent) e)
+works_at b MulS h [] chunks shape fits other more e = absurd fits
+works_at b MulS h (x ∷ []) chunks shape fits other more e = absurd fits
+works_at b MulS h (x ∷ y ∷ z ∷ trees) chunks shape fits other more e = absurd fits
 works_at b Full h (Nothing ∷ []) chunks shape fits other more e =
     full_work_nothing h ∙ no_tasks (Nothing ∷ []) chunks shape (given_shape Null) refl (one_of_one shape (given_shape Null) e)
 works_at b Full zero (Root k x y z w ∷ []) chunks shape fits other more e = low_tasks (Root k x y z w ∷ []) chunks shape e
@@ -448,6 +562,16 @@ kind_adds_up b SAdd h trees outcome fits sound =
     works_at b SAdd h trees (new_trees trees outcome) (shape_of outcome) fits (λ e. cc) (λ e. cc) (in_plan SAdd h (map presence_of trees) (shape_of outcome) sound.planned)
 kind_adds_up b Full h trees outcome fits sound =
     works_at b Full h trees (new_trees trees outcome) (shape_of outcome) fits (λ e. cc) (λ e. cc) (in_plan Full h (map presence_of trees) (shape_of outcome) sound.planned)
+kind_adds_up b Square h trees outcome fits sound =
+    works_at b Square h trees (new_trees trees outcome) (shape_of outcome) fits (λ e. cc) (λ e. cc) (in_plan Square h (map presence_of trees) (shape_of outcome) sound.planned)
+kind_adds_up b RankMul h trees outcome fits sound =
+    works_at b RankMul h trees (new_trees trees outcome) (shape_of outcome) fits (λ e. cc) (λ e. cc) (in_plan RankMul h (map presence_of trees) (shape_of outcome) sound.planned)
+kind_adds_up b TRank h trees outcome fits sound =
+    works_at b TRank h trees (new_trees trees outcome) (shape_of outcome) fits (λ e. cc) (λ e. cc) (in_plan TRank h (map presence_of trees) (shape_of outcome) sound.planned)
+kind_adds_up b SMul h trees outcome fits sound =
+    works_at b SMul h trees (new_trees trees outcome) (shape_of outcome) fits (λ e. cc) (λ e. cc) (in_plan SMul h (map presence_of trees) (shape_of outcome) sound.planned)
+kind_adds_up b MulS h trees outcome fits sound =
+    works_at b MulS h trees (new_trees trees outcome) (shape_of outcome) fits (λ e. cc) (λ e. cc) (in_plan MulS h (map presence_of trees) (shape_of outcome) sound.planned)
 kind_adds_up b STrace h trees outcome fits sound =
     works_at b STrace h trees (new_trees trees outcome) (shape_of outcome) fits (λ e. cc) (λ e. cc) (in_plan STrace h (map presence_of trees) (shape_of outcome) sound.planned)
 

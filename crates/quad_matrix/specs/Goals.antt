@@ -5,7 +5,7 @@ use Rattle.task_types.specs.Tree.{Tree, Nothing, Root}
 use Rattle.quad_matrix.specs.declared.chunk.MatChunk.{MatChunk}
 use Rattle.quad_matrix.specs.declared.chunk.MatChunk.TheVariants as chunk
 use Rattle.quad_matrix.specs.declared.kind.What.{What}
-use Rattle.quad_matrix.specs.declared.kind.What.TheVariants.{Assign, Add, Mul, TMul, MulT, Transpose, Join, Trace, AddNum, SAssign, SAdd, Full, SJoin, STrace}
+use Rattle.quad_matrix.specs.declared.kind.What.TheVariants.{Assign, Add, Mul, TMul, MulT, Transpose, Join, Trace, AddNum, SAssign, SAdd, Square, RankMul, TRank, SMul, MulS, Full, SJoin, STrace}
 use Rattle.quad_matrix.specs.declared.kind.MatKind.{MatKind}
 use Rattle.quad_matrix.specs.Spots.{AreSoundEntries}
 use Rattle.quad_matrix.specs.Blocks.{block_of, number_of, canonical, canonical_symmetric, number_tree, IsCanonical, IsCanonicalSymmetric, IsNumber, leaf_in}
@@ -27,6 +27,11 @@ kind_at height Trace = kind_of Trace height
 kind_at height AddNum = kind_of AddNum 0
 kind_at height SAssign = kind_of SAssign height
 kind_at height SAdd = kind_of SAdd height
+kind_at height Square = kind_of Square height
+kind_at height RankMul = kind_of RankMul height
+kind_at height TRank = kind_of TRank height
+kind_at height SMul = kind_of SMul height
+kind_at height MulS = kind_of MulS height
 kind_at height Full = kind_of Full height
 kind_at height SJoin = kind_of SJoin height
 kind_at height STrace = kind_of STrace height
@@ -47,6 +52,11 @@ goal_at b Trace h (x ∷ []) = number_tree (trace_of (block_of b h x))
 goal_at b AddNum h (x ∷ y ∷ []) = number_tree (number_of x +ℤ number_of y)
 goal_at b SAssign h (x ∷ []) = canonical_symmetric b h (block_of b h x)
 goal_at b SAdd h (x ∷ y ∷ []) = canonical_symmetric b h (plus (block_of b h x) (block_of b h y))
+goal_at b Square h (x ∷ []) = canonical_symmetric b h (times (block_of b h x) (block_of b h x))
+goal_at b RankMul h (x ∷ []) = canonical_symmetric b h (mult_of (block_of b h x) (block_of b h x))
+goal_at b TRank h (x ∷ []) = canonical_symmetric b h (tmul_of (block_of b h x) (block_of b h x))
+goal_at b SMul h (x ∷ y ∷ []) = canonical b h (times (block_of b h x) (block_of b h y))
+goal_at b MulS h (x ∷ y ∷ []) = canonical b h (times (block_of b h x) (block_of b h y))
 goal_at b Full h (x ∷ []) = canonical b h (block_of b h x)
 goal_at b STrace h (x ∷ []) = number_tree (trace_of (block_of b h x))
 goal_at b SJoin h (x ∷ y ∷ z ∷ []) =
@@ -62,6 +72,11 @@ goal_at b Trace h trees = Nothing
 goal_at b AddNum h trees = Nothing
 goal_at b SAssign h trees = Nothing
 goal_at b SAdd h trees = Nothing
+goal_at b Square h trees = Nothing
+goal_at b RankMul h trees = Nothing
+goal_at b TRank h trees = Nothing
+goal_at b SMul h trees = Nothing
+goal_at b MulS h trees = Nothing
 goal_at b Full h trees = Nothing
 goal_at b SJoin h trees = Nothing
 goal_at b STrace h trees = Nothing
@@ -96,6 +111,13 @@ FitsAt b AddNum h (x ∷ y ∷ []) =
 FitsAt b SAssign h (x ∷ []) = IsList b h true x
 FitsAt b SAdd h (x ∷ y ∷ []) =
     IsCanonicalSymmetric b h x × IsCanonicalSymmetric b h y × SumFits (block_of b h x) (block_of b h y)
+FitsAt b Square h (x ∷ []) = IsCanonicalSymmetric b h x × ProductFits (block_of b h x) (block_of b h x)
+FitsAt b RankMul h (x ∷ []) = IsCanonical b h x × MultFits (block_of b h x) (block_of b h x)
+FitsAt b TRank h (x ∷ []) = IsCanonical b h x × TmulFits (block_of b h x) (block_of b h x)
+FitsAt b SMul h (x ∷ y ∷ []) =
+    IsCanonicalSymmetric b h x × IsCanonical b h y × ProductFits (block_of b h x) (block_of b h y)
+FitsAt b MulS h (x ∷ y ∷ []) =
+    IsCanonical b h x × IsCanonicalSymmetric b h y × ProductFits (block_of b h x) (block_of b h y)
 FitsAt b Full h (x ∷ []) = IsCanonicalSymmetric b h x
 FitsAt b STrace h (x ∷ []) = IsCanonicalSymmetric b h x × TraceFits (block_of b h x)
 FitsAt b SJoin h (x ∷ y ∷ z ∷ []) =
@@ -111,6 +133,11 @@ FitsAt b Trace h trees = ⊥
 FitsAt b AddNum h trees = ⊥
 FitsAt b SAssign h trees = ⊥
 FitsAt b SAdd h trees = ⊥
+FitsAt b Square h trees = ⊥
+FitsAt b RankMul h trees = ⊥
+FitsAt b TRank h trees = ⊥
+FitsAt b SMul h trees = ⊥
+FitsAt b MulS h trees = ⊥
 FitsAt b Full h trees = ⊥
 FitsAt b SJoin h trees = ⊥
 FitsAt b STrace h trees = ⊥
@@ -135,6 +162,11 @@ IsOutput b Trace h tree = IsNumber tree
 IsOutput b AddNum h tree = IsNumber tree
 IsOutput b SAssign h tree = IsCanonicalSymmetric b h tree
 IsOutput b SAdd h tree = IsCanonicalSymmetric b h tree
+IsOutput b Square h tree = IsCanonicalSymmetric b h tree
+IsOutput b RankMul h tree = IsCanonicalSymmetric b h tree
+IsOutput b TRank h tree = IsCanonicalSymmetric b h tree
+IsOutput b SMul h tree = IsCanonical b h tree
+IsOutput b MulS h tree = IsCanonical b h tree
 IsOutput b Full h tree = IsCanonical b h tree
 IsOutput b SJoin h tree = IsCanonicalSymmetric b h tree
 IsOutput b STrace h tree = IsNumber tree
@@ -154,6 +186,11 @@ rank_at Trace h = 4 * h + 1
 rank_at AddNum h = 0
 rank_at SAssign h = 4 * h + 1
 rank_at SAdd h = 4 * h + 1
+rank_at Square h = 4 * h + 3
+rank_at RankMul h = 4 * h + 2
+rank_at TRank h = 4 * h + 2
+rank_at SMul h = 4 * h + 2
+rank_at MulS h = 4 * h + 2
 rank_at Full h = 4 * h + 1
 rank_at SJoin h = 4 * h
 rank_at STrace h = 4 * h + 1

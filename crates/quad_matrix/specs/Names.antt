@@ -3,7 +3,7 @@ use Rattle.std.specs.Prelude.{◌≡◌, ℕ, Option, Some, List, [], ◌∷◌,
 use Rattle.std.proofs.Common.{sym, ap, ◌∙◌, lit≤}
 use Rattle.task_types.specs.Names.{IsName}
 use Rattle.quad_matrix.specs.declared.kind.What.{What}
-use Rattle.quad_matrix.specs.declared.kind.What.TheVariants.{Assign, Add, Mul, TMul, MulT, Transpose, Join, Trace, AddNum, SAssign, SAdd, Full, SJoin, STrace}
+use Rattle.quad_matrix.specs.declared.kind.What.TheVariants.{Assign, Add, Mul, TMul, MulT, Transpose, Join, Trace, AddNum, SAssign, SAdd, Square, RankMul, TRank, SMul, MulS, Full, SJoin, STrace}
 use Rattle.quad_matrix.specs.declared.kind.MatKind.{MatKind}
 use Rattle.quad_matrix.specs.Goals.{kind_of}
 
@@ -20,13 +20,18 @@ what_name Trace = codes "trace"
 what_name AddNum = codes "addnum"
 what_name SAssign = codes "sassign"
 what_name SAdd = codes "sadd"
+what_name Square = codes "square"
+what_name RankMul = codes "rankmul"
+what_name TRank = codes "trank"
+what_name SMul = codes "smul"
+what_name MulS = codes "muls"
 what_name Full = codes "full"
 what_name SJoin = codes "sjoin"
 what_name STrace = codes "strace"
 
 -- all that a task may compute
 abbrev pub all_whats : List What
-all_whats = Assign ∷ Add ∷ Mul ∷ TMul ∷ MulT ∷ Transpose ∷ Join ∷ Trace ∷ AddNum ∷ SAssign ∷ SAdd ∷ Full ∷ SJoin ∷ STrace ∷ []
+all_whats = Assign ∷ Add ∷ Mul ∷ TMul ∷ MulT ∷ Transpose ∷ Join ∷ Trace ∷ AddNum ∷ SAssign ∷ SAdd ∷ Square ∷ RankMul ∷ TRank ∷ SMul ∷ MulS ∷ Full ∷ SJoin ∷ STrace ∷ []
 
 -- what has this name
 abbrev pub what_of : List ℕ → Option What
@@ -45,6 +50,11 @@ names_named Trace = (lit≤ tt, lit≤ tt, refl)
 names_named AddNum = (lit≤ tt, lit≤ tt, refl)
 names_named SAssign = (lit≤ tt, lit≤ tt, refl)
 names_named SAdd = (lit≤ tt, lit≤ tt, refl)
+names_named Square = (lit≤ tt, lit≤ tt, refl)
+names_named RankMul = (lit≤ tt, lit≤ tt, refl)
+names_named TRank = (lit≤ tt, lit≤ tt, refl)
+names_named SMul = (lit≤ tt, lit≤ tt, refl)
+names_named MulS = (lit≤ tt, lit≤ tt, refl)
 names_named Full = (lit≤ tt, lit≤ tt, refl)
 names_named SJoin = (lit≤ tt, lit≤ tt, refl)
 names_named STrace = (lit≤ tt, lit≤ tt, refl)
@@ -62,6 +72,11 @@ what_of-name Trace = refl
 what_of-name AddNum = refl
 what_of-name SAssign = refl
 what_of-name SAdd = refl
+what_of-name Square = refl
+what_of-name RankMul = refl
+what_of-name TRank = refl
+what_of-name SMul = refl
+what_of-name MulS = refl
 what_of-name Full = refl
 what_of-name SJoin = refl
 what_of-name STrace = refl

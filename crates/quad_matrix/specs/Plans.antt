@@ -11,10 +11,10 @@ use Rattle.task_plans.specs.declared.plan.Term.{Term}
 use Rattle.task_plans.specs.declared.plan.Ending.TheVariants.{Joined, Single}
 use Rattle.task_plans.specs.Plans.{Plan, term_on, planned_shapes, given_shape, chunk_shape, are_null, input_place, other_place}
 use Rattle.quad_matrix.specs.declared.kind.What.{What}
-use Rattle.quad_matrix.specs.declared.kind.What.TheVariants.{Assign, Add, Mul, TMul, MulT, Transpose, Join, Trace, AddNum, SAssign, SAdd, Full, SJoin, STrace}
+use Rattle.quad_matrix.specs.declared.kind.What.TheVariants.{Assign, Add, Mul, TMul, MulT, Transpose, Join, Trace, AddNum, SAssign, SAdd, Square, RankMul, TRank, SMul, MulS, Full, SJoin, STrace}
 use Rattle.quad_matrix.specs.declared.kind.MatKind.{MatKind}
 use Rattle.quad_matrix.specs.Goals.{kind_at}
-use Rattle.quad_matrix.specs.Products.{Neither, First, Second, product_plan}
+use Rattle.quad_matrix.specs.Products.{Neither, First, Second, product_plan, child_in}
 
 -- ---- The table
 
@@ -25,6 +25,92 @@ transpose_part q = Alone (term_on Transpose (Child 0 q ∷ []))
 -- the general form of one symmetric child
 abbrev pub full_part : ℕ → Part What
 full_part q = Alone (term_on Full (Child 0 q ∷ []))
+
+-- the number of the child of a symmetric node that stands in the upper or lower half, to the left or to the right; below the diagonal it is
+-- the one above it, whose transpose stands there
+abbrev pub kept_child : Bool → Bool → ℕ
+kept_child false false = 0
+kept_child false true = 1
+kept_child true false = 1
+kept_child true true = 2
+
+-- how a child of a symmetric first factor is multiplied with a child of the second one, by where the first stands
+abbrev pub symmetric_first : Bool → Bool → What
+symmetric_first false false = SMul
+symmetric_first false true = Mul
+symmetric_first true false = TMul
+symmetric_first true true = SMul
+
+-- a term of a quadrant of a product of a symmetric block with a general one
+abbrev pub symmetric_first_term : Bool → Bool → Bool → Term What
+symmetric_first_term lower right far =
+    term_on (symmetric_first lower far) (Child 0 (kept_child lower far) ∷ Child 1 (child_in far right) ∷ [])
+
+-- how a child of the first factor is multiplied with a child of a symmetric second one, by where the second stands
+abbrev pub symmetric_second : Bool → Bool → What
+symmetric_second false false = MulS
+symmetric_second false true = MulT
+symmetric_second true false = Mul
+symmetric_second true true = MulS
+
+-- a term of a quadrant of a product of a general block with a symmetric one
+abbrev pub symmetric_second_term : Bool → Bool → Bool → Term What
+symmetric_second_term lower right far =
+    term_on (symmetric_second right far) (Child 0 (child_in lower far) ∷ Child 1 (kept_child right far) ∷ [])
+
+-- the plan of four quadrants, each the sum of two terms
+abbrev pub quadrants_plan : (Bool → Bool → Bool → Term What) → Plan What
+quadrants_plan term =
+    record {
+      parts =
+          Pair (term false false false) (term false false true) Add ∷ Pair (term false true false) (term false true true) Add
+          ∷ Pair (term true false false) (term true false true) Add ∷ Pair (term true true false) (term true true true) Add
+          ∷ [];
+      ending = Joined Join;
+    }
+
+-- a task on one child, and on two children of the first input
+abbrev pub on_child : What → ℕ → Term What
+on_child what p = term_on what (Child 0 p ∷ [])
+
+abbrev pub on_children : What → ℕ → ℕ → Term What
+on_children what p q = term_on what (Child 0 p ∷ Child 0 q ∷ [])
+
+-- the three quadrants of a symmetric result that are kept, each the sum of two terms: for each the first term and the other one
+abbrev pub square_term : ℕ → Bool → Term What
+square_term zero false = on_child Square 0
+square_term zero true = on_child RankMul 1
+square_term (suc zero) false = on_children SMul 0 1
+square_term (suc zero) true = on_children MulS 1 2
+square_term (suc (suc q)) false = on_child TRank 1
+square_term (suc (suc q)) true = on_child Square 2
+
+abbrev pub rank_term : ℕ → Bool → Term What
+rank_term zero false = on_child RankMul 0
+rank_term zero true = on_child RankMul 1
+rank_term (suc zero) false = on_children MulT 0 2
+rank_term (suc zero) true = on_children MulT 1 3
+rank_term (suc (suc q)) false = on_child RankMul 2
+rank_term (suc (suc q)) true = on_child RankMul 3
+
+abbrev pub transposed_rank_term : ℕ → Bool → Term What
+transposed_rank_term zero false = on_child TRank 0
+transposed_rank_term zero true = on_child TRank 2
+transposed_rank_term (suc zero) false = on_children TMul 0 1
+transposed_rank_term (suc zero) true = on_children TMul 2 3
+transposed_rank_term (suc (suc q)) false = on_child TRank 1
+transposed_rank_term (suc (suc q)) true = on_child TRank 3
+
+-- the plan of such a result
+abbrev pub symmetric_quadrants_plan : (ℕ → Bool → Term What) → Plan What
+symmetric_quadrants_plan term =
+    record {
+      parts =
+          Pair (term 0 false) (term 0 true) SAdd ∷ Pair (term 1 false) (term 1 true) Add
+          ∷ Pair (term 2 false) (term 2 true) SAdd
+          ∷ [];
+      ending = Joined SJoin;
+    }
 
 -- the trace of a general block or of a symmetric one
 abbrev pub trace_what : Bool → What
@@ -67,6 +153,11 @@ plan_of AddNum = record { parts = []; ending = Single }
 plan_of SAssign =
     record { parts = Portion SAssign 0 true ∷ Portion Assign 1 false ∷ Portion SAssign 3 true ∷ []; ending = Joined SJoin }
 plan_of SAdd = record { parts = Either SAdd 0 ∷ Either Add 1 ∷ Either SAdd 2 ∷ []; ending = Joined SJoin }
+plan_of Square = symmetric_quadrants_plan square_term
+plan_of RankMul = symmetric_quadrants_plan rank_term
+plan_of TRank = symmetric_quadrants_plan transposed_rank_term
+plan_of SMul = quadrants_plan symmetric_first_term
+plan_of MulS = quadrants_plan symmetric_second_term
 plan_of Full =
     record {
       parts = full_part 0 ∷ Itself 0 1 ∷ transpose_part 1 ∷ full_part 2 ∷ [];
@@ -90,6 +181,11 @@ inputs_of Trace = 1
 inputs_of AddNum = 2
 inputs_of SAssign = 1
 inputs_of SAdd = 2
+inputs_of Square = 1
+inputs_of RankMul = 1
+inputs_of TRank = 1
+inputs_of SMul = 2
+inputs_of MulS = 2
 inputs_of Full = 1
 inputs_of SJoin = 3
 inputs_of STrace = 1
@@ -107,6 +203,11 @@ may_have Trace height = nat_le height 16
 may_have AddNum height = height == 0
 may_have SAssign height = nat_le height 16
 may_have SAdd height = nat_le height 16
+may_have Square height = nat_le height 16
+may_have RankMul height = nat_le height 16
+may_have TRank height = nat_le height 16
+may_have SMul height = nat_le height 16
+may_have MulS height = nat_le height 16
 may_have Full height = nat_le height 16
 may_have SJoin height = nat_le 1 height && nat_le height 16
 may_have STrace height = nat_le height 16
@@ -144,6 +245,11 @@ null_shape Trace known = given_shape Null
 null_shape AddNum known = given_shape (other_place known)
 null_shape SAssign known = given_shape Null
 null_shape SAdd known = given_shape (other_place known)
+null_shape Square known = given_shape Null
+null_shape RankMul known = given_shape Null
+null_shape TRank known = given_shape Null
+null_shape SMul known = given_shape Null
+null_shape MulS known = given_shape Null
 null_shape Full known = given_shape Null
 null_shape SJoin known = symmetric_joined_shape known
 null_shape STrace known = given_shape Null
@@ -170,6 +276,11 @@ full_shapes Trace height known = shapes_at Trace height known
 full_shapes AddNum height known = low_shapes
 full_shapes SAssign height known = shapes_at SAssign height known
 full_shapes SAdd height known = shapes_at SAdd height known
+full_shapes Square height known = shapes_at Square height known
+full_shapes RankMul height known = shapes_at RankMul height known
+full_shapes TRank height known = shapes_at TRank height known
+full_shapes SMul height known = shapes_at SMul height known
+full_shapes MulS height known = shapes_at MulS height known
 full_shapes Full height known = shapes_at Full height known
 full_shapes SJoin height known = symmetric_joined_shape known ∷ []
 full_shapes STrace height known = shapes_at STrace height known

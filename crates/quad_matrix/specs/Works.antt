@@ -4,13 +4,13 @@ use Rattle.dense_def.specs.Matrix.{Matrix, peak_of}
 use Rattle.task_types.specs.Tree.{Tree, Nothing, Root, child, is_there}
 use Rattle.quad_matrix.specs.declared.chunk.MatChunk.{MatChunk}
 use Rattle.quad_matrix.specs.declared.kind.What.{What}
-use Rattle.quad_matrix.specs.declared.kind.What.TheVariants.{Assign, Add, Mul, TMul, MulT, Transpose, Join, Trace, AddNum, SAssign, SAdd, Full, SJoin, STrace}
+use Rattle.quad_matrix.specs.declared.kind.What.TheVariants.{Assign, Add, Mul, TMul, MulT, Transpose, Join, Trace, AddNum, SAssign, SAdd, Square, RankMul, TRank, SMul, MulS, Full, SJoin, STrace}
 use Rattle.quad_matrix.specs.declared.kind.MatKind.{MatKind}
 use Rattle.chunk_codec.specs.Spots.{side_of}
 use Rattle.quad_matrix.specs.Blocks.{block_of, leaf_of, upper_left, upper_right, lower_left, lower_right}
 use Rattle.quad_matrix.specs.Goals.{kind_of, goal_of}
-use Rattle.quad_matrix.specs.Plans.{last_child}
-use Rattle.quad_matrix.specs.Products.{Turned, Neither, First, Second, product_what, first_child, second_child}
+use Rattle.quad_matrix.specs.Plans.{last_child, kept_child, symmetric_first, symmetric_second}
+use Rattle.quad_matrix.specs.Products.{Turned, Neither, First, Second, product_what, first_child, second_child, child_in}
 
 -- an item where it is asked for
 abbrev pub asked : {X : Type 0} → Bool → X → List X
@@ -116,6 +116,100 @@ product_work turned (suc h) x y =
     (quadrant false false ++ quadrant false true ++ quadrant true false ++ quadrant true true
     ++ asked (has_term turned x y false false || has_term turned x y false true || has_term turned x y true false || has_term turned x y true true) 1)
 
+-- the work of a term of a product of a symmetric block with a general one: of such a product itself, or of a product of general blocks
+abbrev pub first_term_work : Bool → Bool → ℕ → ℕ → Tree MatChunk → Tree MatChunk → ℕ
+first_term_work false false own h x y = own
+first_term_work false true own h x y = product_work Neither h x y
+first_term_work true false own h x y = product_work First h x y
+first_term_work true true own h x y = own
+
+-- the work of a product of a symmetric block with a general one
+abbrev pub symmetric_first_work : ℕ → Tree MatChunk → Tree MatChunk → ℕ
+symmetric_first_work zero s x = 1
+symmetric_first_work (suc h) s x =
+    let term : Bool → Bool → Bool → ℕ =
+    λ lower right far. first_term_work lower far (symmetric_first_work h (child s (kept_child lower far)) (child x (child_in far right))) h (child s (kept_child lower far)) (child x (child_in far right)) in
+    let goal : Bool → Bool → Bool → Tree MatChunk =
+    λ lower right far. goal_of (kind_of (symmetric_first lower far) h) (child s (kept_child lower far) ∷ child x (child_in far right) ∷ []) in
+    let there : Bool → Bool → Bool → Bool = λ lower right far. are_both (child s (kept_child lower far)) (child x (child_in far right)) in
+    let quadrant : Bool → Bool → List ℕ =
+    λ lower right.
+    pair_works (there lower right false) (there lower right true) (term lower right false) (term lower right true)
+    (add_work h (goal lower right false) (goal lower right true)) in
+    1
+    + sum
+    (quadrant false false ++ quadrant false true ++ quadrant true false ++ quadrant true true
+    ++ asked ((there false false false || there false false true) || (there false true false || there false true true) || (there true false false || there true false true) || (there true true false || there true true true)) 1)
+
+-- the work of a term of a product of a general block with a symmetric one
+abbrev pub second_term_work : Bool → Bool → ℕ → ℕ → Tree MatChunk → Tree MatChunk → ℕ
+second_term_work false false own h x y = own
+second_term_work false true own h x y = product_work Second h x y
+second_term_work true false own h x y = product_work Neither h x y
+second_term_work true true own h x y = own
+
+-- the work of a product of a general block with a symmetric one
+abbrev pub symmetric_second_work : ℕ → Tree MatChunk → Tree MatChunk → ℕ
+symmetric_second_work zero x s = 1
+symmetric_second_work (suc h) x s =
+    let term : Bool → Bool → Bool → ℕ =
+    λ lower right far. second_term_work right far (symmetric_second_work h (child x (child_in lower far)) (child s (kept_child right far))) h (child x (child_in lower far)) (child s (kept_child right far)) in
+    let goal : Bool → Bool → Bool → Tree MatChunk =
+    λ lower right far. goal_of (kind_of (symmetric_second right far) h) (child x (child_in lower far) ∷ child s (kept_child right far) ∷ []) in
+    let there : Bool → Bool → Bool → Bool = λ lower right far. are_both (child x (child_in lower far)) (child s (kept_child right far)) in
+    let quadrant : Bool → Bool → List ℕ =
+    λ lower right.
+    pair_works (there lower right false) (there lower right true) (term lower right false) (term lower right true)
+    (add_work h (goal lower right false) (goal lower right true)) in
+    1
+    + sum
+    (quadrant false false ++ quadrant false true ++ quadrant true false ++ quadrant true true
+    ++ asked ((there false false false || there false false true) || (there false true false || there false true true) || (there true false false || there true false true) || (there true true false || there true true true)) 1)
+
+-- the work of a product of a general block with its own transpose
+abbrev pub rank_work : ℕ → Tree MatChunk → ℕ
+rank_work zero x = 1
+rank_work (suc h) x =
+    let a = child x 0 in
+    let b = child x 1 in
+    let c = child x 2 in
+    let d = child x 3 in
+    1
+    + sum
+    (pair_works (is_there a) (is_there b) (rank_work h a) (rank_work h b) (symmetric_add_work h (goal_of (kind_of RankMul h) (a ∷ [])) (goal_of (kind_of RankMul h) (b ∷ [])))
+    ++ pair_works (are_both a c) (are_both b d) (product_work Second h a c) (product_work Second h b d) (add_work h (goal_of (kind_of MulT h) (a ∷ c ∷ [])) (goal_of (kind_of MulT h) (b ∷ d ∷ [])))
+    ++ pair_works (is_there c) (is_there d) (rank_work h c) (rank_work h d) (symmetric_add_work h (goal_of (kind_of RankMul h) (c ∷ [])) (goal_of (kind_of RankMul h) (d ∷ [])))
+    ++ asked ((is_there a || is_there b) || (are_both a c || are_both b d) || (is_there c || is_there d)) 1)
+
+-- the work of a product of the transpose of a general block with the block itself
+abbrev pub transposed_rank_work : ℕ → Tree MatChunk → ℕ
+transposed_rank_work zero x = 1
+transposed_rank_work (suc h) x =
+    let a = child x 0 in
+    let b = child x 1 in
+    let c = child x 2 in
+    let d = child x 3 in
+    1
+    + sum
+    (pair_works (is_there a) (is_there c) (transposed_rank_work h a) (transposed_rank_work h c) (symmetric_add_work h (goal_of (kind_of TRank h) (a ∷ [])) (goal_of (kind_of TRank h) (c ∷ [])))
+    ++ pair_works (are_both a b) (are_both c d) (product_work First h a b) (product_work First h c d) (add_work h (goal_of (kind_of TMul h) (a ∷ b ∷ [])) (goal_of (kind_of TMul h) (c ∷ d ∷ [])))
+    ++ pair_works (is_there b) (is_there d) (transposed_rank_work h b) (transposed_rank_work h d) (symmetric_add_work h (goal_of (kind_of TRank h) (b ∷ [])) (goal_of (kind_of TRank h) (d ∷ [])))
+    ++ asked ((is_there a || is_there c) || (are_both a b || are_both c d) || (is_there b || is_there d)) 1)
+
+-- the work of a square of a symmetric block
+abbrev pub square_work : ℕ → Tree MatChunk → ℕ
+square_work zero x = 1
+square_work (suc h) x =
+    let a = child x 0 in
+    let b = child x 1 in
+    let c = child x 2 in
+    1
+    + sum
+    (pair_works (is_there a) (is_there b) (square_work h a) (rank_work h b) (symmetric_add_work h (goal_of (kind_of Square h) (a ∷ [])) (goal_of (kind_of RankMul h) (b ∷ [])))
+    ++ pair_works (are_both a b) (are_both b c) (symmetric_first_work h a b) (symmetric_second_work h b c) (add_work h (goal_of (kind_of SMul h) (a ∷ b ∷ [])) (goal_of (kind_of MulS h) (b ∷ c ∷ [])))
+    ++ pair_works (is_there b) (is_there c) (transposed_rank_work h b) (square_work h c) (symmetric_add_work h (goal_of (kind_of TRank h) (b ∷ [])) (goal_of (kind_of Square h) (c ∷ [])))
+    ++ asked ((is_there a || is_there b) || (are_both a b || are_both b c) || (is_there b || is_there c)) 1)
+
 -- whether a block has a number other than 0
 abbrev pub has_number : Matrix → Bool
 has_number m = not (peak_of m == 0)
@@ -155,6 +249,11 @@ work_at Transpose h (x ∷ []) = transpose_work h x
 work_at Trace h (x ∷ []) = trace_work false h x
 work_at SAssign h (x ∷ []) = symmetric_assign_work (leaf_of x) h (block_of (leaf_of x) h x)
 work_at SAdd h (x ∷ y ∷ []) = symmetric_add_work h x y
+work_at Square h (x ∷ []) = square_work h x
+work_at RankMul h (x ∷ []) = rank_work h x
+work_at TRank h (x ∷ []) = transposed_rank_work h x
+work_at SMul h (x ∷ y ∷ []) = symmetric_first_work h x y
+work_at MulS h (x ∷ y ∷ []) = symmetric_second_work h x y
 work_at Full h (x ∷ []) = full_work h x
 work_at STrace h (x ∷ []) = trace_work true h x
 work_at Assign h trees = 1
@@ -168,6 +267,11 @@ work_at Trace h trees = 1
 work_at AddNum h trees = 1
 work_at SAssign h trees = 1
 work_at SAdd h trees = 1
+work_at Square h trees = 1
+work_at RankMul h trees = 1
+work_at TRank h trees = 1
+work_at SMul h trees = 1
+work_at MulS h trees = 1
 work_at Full h trees = 1
 work_at SJoin h trees = 1
 work_at STrace h trees = 1

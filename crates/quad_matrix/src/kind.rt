@@ -31,6 +31,16 @@ pub enum What {
     SAssign,
     /// The sum of two symmetric blocks.
     SAdd,
+    /// The square of a symmetric block.
+    Square,
+    /// The product of a block with its own transpose, a symmetric block.
+    RankMul,
+    /// The product of the transpose of a block with the block, a symmetric block.
+    TRank,
+    /// The product of a symmetric block with a general one.
+    SMul,
+    /// The product of a general block with a symmetric one.
+    MulS,
     /// A symmetric block in general form.
     Full,
     /// The symmetric block with two symmetric blocks on its diagonal and a general one between them, whose transpose stands below.
@@ -40,7 +50,7 @@ pub enum What {
 }
 
 // All of them.
-const ALL: [What; 14] = [
+const ALL: [What; 19] = [
     What::Assign,
     What::Add,
     What::Mul,
@@ -52,6 +62,11 @@ const ALL: [What; 14] = [
     What::AddNum,
     What::SAssign,
     What::SAdd,
+    What::Square,
+    What::RankMul,
+    What::TRank,
+    What::SMul,
+    What::MulS,
     What::Full,
     What::SJoin,
     What::STrace,
@@ -75,6 +90,11 @@ impl What {
             What::AddNum => b"addnum",
             What::SAssign => b"sassign",
             What::SAdd => b"sadd",
+            What::Square => b"square",
+            What::RankMul => b"rankmul",
+            What::TRank => b"trank",
+            What::SMul => b"smul",
+            What::MulS => b"muls",
             What::Full => b"full",
             What::SJoin => b"sjoin",
             What::STrace => b"strace",
@@ -98,6 +118,7 @@ impl Operation for What {
         let height = match self {
             What::Assign | What::Add | What::Mul | What::TMul | What::MulT => height,
             What::Transpose | What::Join | What::Trace => height,
+            What::Square | What::RankMul | What::TRank | What::SMul | What::MulS => height,
             What::SAssign | What::SAdd | What::Full | What::SJoin | What::STrace => height,
             What::AddNum => 0,
         };

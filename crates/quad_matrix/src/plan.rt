@@ -32,6 +32,33 @@ macro_rules! quadrant {
     };
 }
 
+// The product of two children of the first input.
+macro_rules! children {
+    ($what:expr, $first:expr, $second:expr) => {
+        Term {
+            what: $what,
+            inputs: Places {
+                count: 2,
+                first: Place::Child(0, $first),
+                second: Place::Child(0, $second),
+                third: Place::Null,
+                fourth: Place::Null,
+            },
+        }
+    };
+}
+
+// A quadrant that is the sum of two terms.
+macro_rules! terms {
+    ($first:expr, $second:expr, $sum:expr) => {
+        Part::Pair {
+            first: $first,
+            second: $second,
+            sum: $sum,
+        }
+    };
+}
+
 // A task on one child of the inputs.
 macro_rules! term {
     ($what:expr, $first:expr) => {
@@ -138,6 +165,111 @@ const SADD: [Part<What>; 3] = [
     either!(What::SAdd, 2),
 ];
 
+// [A B; Bᵀ C] squared: A² + B Bᵀ, A B + B C, and Bᵀ B + C².
+const SQUARE: [Part<What>; 3] = [
+    terms!(
+        term!(What::Square, Place::Child(0, 0)),
+        term!(What::RankMul, Place::Child(0, 1)),
+        What::SAdd
+    ),
+    terms!(
+        children!(What::SMul, 0, 1),
+        children!(What::MulS, 1, 2),
+        What::Add
+    ),
+    terms!(
+        term!(What::TRank, Place::Child(0, 1)),
+        term!(What::Square, Place::Child(0, 2)),
+        What::SAdd
+    ),
+];
+
+// Products of the quadrants' rows with their own transposes, and with each other's.
+const RANK_MUL: [Part<What>; 3] = [
+    terms!(
+        term!(What::RankMul, Place::Child(0, 0)),
+        term!(What::RankMul, Place::Child(0, 1)),
+        What::SAdd
+    ),
+    terms!(
+        children!(What::MulT, 0, 2),
+        children!(What::MulT, 1, 3),
+        What::Add
+    ),
+    terms!(
+        term!(What::RankMul, Place::Child(0, 2)),
+        term!(What::RankMul, Place::Child(0, 3)),
+        What::SAdd
+    ),
+];
+
+// The same of the quadrants' columns.
+const TRANK: [Part<What>; 3] = [
+    terms!(
+        term!(What::TRank, Place::Child(0, 0)),
+        term!(What::TRank, Place::Child(0, 2)),
+        What::SAdd
+    ),
+    terms!(
+        children!(What::TMul, 0, 1),
+        children!(What::TMul, 2, 3),
+        What::Add
+    ),
+    terms!(
+        term!(What::TRank, Place::Child(0, 1)),
+        term!(What::TRank, Place::Child(0, 3)),
+        What::SAdd
+    ),
+];
+
+// [A B; Bᵀ C] times a general block.
+const SMUL: [Part<What>; 4] = [
+    terms!(
+        factors!(What::SMul, 0, 0),
+        factors!(What::Mul, 1, 2),
+        What::Add
+    ),
+    terms!(
+        factors!(What::SMul, 0, 1),
+        factors!(What::Mul, 1, 3),
+        What::Add
+    ),
+    terms!(
+        factors!(What::TMul, 1, 0),
+        factors!(What::SMul, 2, 2),
+        What::Add
+    ),
+    terms!(
+        factors!(What::TMul, 1, 1),
+        factors!(What::SMul, 2, 3),
+        What::Add
+    ),
+];
+
+// A general block times [A B; Bᵀ C].
+const MULS: [Part<What>; 4] = [
+    terms!(
+        factors!(What::MulS, 0, 0),
+        factors!(What::MulT, 1, 1),
+        What::Add
+    ),
+    terms!(
+        factors!(What::Mul, 0, 1),
+        factors!(What::MulS, 1, 2),
+        What::Add
+    ),
+    terms!(
+        factors!(What::MulS, 2, 0),
+        factors!(What::MulT, 3, 1),
+        What::Add
+    ),
+    terms!(
+        factors!(What::Mul, 2, 1),
+        factors!(What::MulS, 3, 2),
+        What::Add
+    ),
+];
+
 // The symmetric children in general form, and the one between them with its transpose.
 const FULL: [Part<What>; 4] = [
     Part::Alone(term!(What::Full, Place::Child(0, 0))),
@@ -168,6 +300,11 @@ impl What {
             What::Trace => &TRACE,
             What::SAssign => &SASSIGN,
             What::SAdd => &SADD,
+            What::Square => &SQUARE,
+            What::RankMul => &RANK_MUL,
+            What::TRank => &TRANK,
+            What::SMul => &SMUL,
+            What::MulS => &MULS,
             What::Full => &FULL,
             What::STrace => &STRACE,
             What::Join | What::SJoin | What::AddNum => &[],
@@ -182,7 +319,8 @@ impl What {
             What::Assign | What::Add | What::Mul | What::TMul | What::MulT | What::Transpose => {
                 Ending::Joined(What::Join)
             }
-            What::Full => Ending::Joined(What::Join),
+            What::SMul | What::MulS | What::Full => Ending::Joined(What::Join),
+            What::Square | What::RankMul | What::TRank => Ending::Joined(What::SJoin),
             What::SAssign => Ending::Joined(What::SJoin),
             What::SAdd => Ending::Joined(What::SJoin),
             What::Trace | What::STrace => Ending::Single,
