@@ -1,5 +1,5 @@
 -- What is granted of the inputs of a task shows their trees.
-use Rattle.std.proofs.Common.{◌≡◌, ℕ, zero, suc, ◌≤◌, Bool, true, nat_lt, List, [], ◌∷◌, map as each, length, slice_get, take, Option, None, Some, refl, sym, ap, subst, ◌∙◌, arith}
+use Rattle.std.proofs.Common.{◌≡◌, ℕ, zero, suc, ◌≤◌, Bool, nat_lt, List, [], ◌∷◌, map as each, length, slice_get, take, Option, None, Some, refl, sym, ap, subst, ◌∙◌, arith}
 use Rattle.std.proofs.lemmas.List.{length-map}
 use Rattle.std.specs.Option.{option_map, is_some}
 use Rattle.cht_ids.specs.declared.refs.Ref.{Ref}
