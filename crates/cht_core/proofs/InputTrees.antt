@@ -1,5 +1,5 @@
 -- What is granted of the inputs of a task shows their trees.
-use Rattle.std.proofs.Common.{◌≡◌, ℕ, zero, suc, ◌≤◌, true, nat_lt, List, [], ◌∷◌, map as each, length, slice_get, take, Option, None, Some, refl, sym, ap, subst, ◌∙◌, arith}
+use Rattle.std.proofs.Common.{◌≡◌, ℕ, zero, suc, ◌≤◌, Bool, nat_lt, List, [], ◌∷◌, map as each, length, slice_get, take, Option, None, Some, refl, sym, ap, subst, ◌∙◌, arith}
 use Rattle.std.proofs.lemmas.List.{length-map}
 use Rattle.std.specs.Option.{option_map, is_some}
 use Rattle.cht_ids.specs.declared.refs.Ref.{Ref}
@@ -20,7 +20,7 @@ use Rattle.name_machine.proofs.Ends.{inputs_at}
 use Rattle.name_machine.proofs.Orderly.{ref_is_live}
 use Rattle.core_state.specs.Contents.{Contents}
 use Rattle.cht_core.specs.Events.{state}
-use Rattle.cht_core.specs.Granted.{IsOwn, view_granted, own_of, IsGrantedOwn}
+use Rattle.cht_core.specs.Granted.{count_there, IsOwn, view_granted, own_of, IsGrantedOwn}
 use Rattle.cht_core.specs.declared.grants.Grant.{Grant}
 use Rattle.cht_core.specs.declared.grants.Grants.{Grants}
 use Rattle.cht_core.proofs.FinishAllowed.{there_from}
@@ -121,5 +121,17 @@ module _ {C K : Type 0} (lib : Meanings C K) (arity : C → ℕ) (before now : C
 pub many_trees : {C K : Type 0} (t : Unfinished (Tree C) K) → length (input_trees t) ≡ length t.inputs
 many_trees t = length-map t.inputs tree_known
 
-pub are_four : {X : Type 0} (xs : List X) → nat_lt 3 (length xs) ≡ true → length xs ≤ 4 → (4 ≡ length xs) × (length xs ≤ 4)
-are_four xs fourth few = (grind arith, few)
+-- of at most four inputs all are counted
+all_counted : {X : Type 0} (xs : List X) → length xs ≤ 4 → count_there (nat_lt 0 (length xs)) (nat_lt 1 (length xs)) (nat_lt 2 (length xs)) (nat_lt 3 (length xs)) ≡ length xs
+all_counted [] few = refl
+all_counted (a ∷ []) few = refl
+all_counted (a ∷ b ∷ []) few = refl
+all_counted (a ∷ b ∷ c ∷ []) few = refl
+all_counted (a ∷ b ∷ c ∷ d ∷ []) few = refl
+all_counted (a ∷ b ∷ c ∷ d ∷ e ∷ xs) few = absurd (omega arith)
+
+pub all_there : {X : Type 0} (count : ℕ) (first second third fourth : Bool) (xs : List X) → length xs ≤ 4 → count ≡ count_there first second third fourth
+    → first ≡ nat_lt 0 (length xs) → second ≡ nat_lt 1 (length xs) → third ≡ nat_lt 2 (length xs) → fourth ≡ nat_lt 3 (length xs)
+    → count ≡ length xs
+all_there count first second third fourth xs few counted a b c d =
+    counted ∙ (λ i. count_there (a i) (b i) (c i) (d i)) ∙ all_counted xs few

@@ -1,5 +1,5 @@
 -- What a worker is granted of the inputs of a task, and what it shows.
-use Rattle.std.specs.Prelude.{ℕ, List}
+use Rattle.std.specs.Prelude.{ℕ, Bool, if◌then◌else◌, Option, None, Some, List}
 use Rattle.task_types.specs.Tree.{Tree, Nothing as NoTree, Root, is_there, child}
 use Rattle.task_types.specs.Shown.{mask, Shows}
 use Rattle.task_types.specs.declared.inputs.View.{View}
@@ -8,6 +8,11 @@ use Rattle.task_types.specs.declared.inputs.Inputs.{Inputs}
 use Rattle.cht_core.specs.declared.grants.Grant.{Grant}
 use Rattle.cht_core.specs.declared.grants.Grant.TheVariants.{Nothing, Own, Cached, Bytes}
 use Rattle.cht_core.specs.declared.grants.Grants.{Grants}
+
+-- how many of four inputs are there, before the first that is not
+abbrev pub count_there : Bool → Bool → Bool → Bool → ℕ
+count_there first second third fourth =
+    if first then (if second then (if third then (if fourth then 4 else 3) else 2) else 1) else 0
 
 module _ {C : Type 0} where
   -- an input is null, or of the worker's own store
@@ -47,6 +52,11 @@ module _ {C : Type 0} where
   abbrev pub own_of : Tree C → Grant C
   own_of NoTree = Nothing
   own_of (Root content a b c d) = Own content (mask (is_there a) (is_there b) (is_there c) (is_there d))
+
+  -- what is granted of an input that is there; nothing where it is not
+  abbrev pub or_nothing : Option (Grant C) → Grant C
+  or_nothing None = Nothing
+  or_nothing (Some grant) = grant
 
   -- what is granted shows these trees, and each is null or of the worker's own store
   abbrev pub IsGrantedOwn : List (Tree C) → Grants C → Type 0
