@@ -1,7 +1,8 @@
-ghost use Rattle.std.specs.Prelude.{◌≡◌, ◌≢◌, ◌⊎◌, List, ℕ, [], Some};
+ghost use Rattle.std.specs.Prelude.{◌≡◌, ◌≢◌, ◌⊎◌, List, ℕ, [], Some, IfOk};
 ghost use Rattle.cht_io.specs.Faults.{Rose};
 ghost use Rattle.cht_engine.specs.Closing.{EndsEmpty};
 ghost use Rattle.cht_script.specs.Checking.{IsChecked, IsJudged};
+ghost use Rattle.cht_script.specs.Parsing.{IsParsed};
 ghost use Rattle.cht_run.specs.Answers.{Answers, IsSilent, status_for};
 ghost use Rattle.cht_run.specs.Journals.{matrix_plans, Journals};
 ghost use Rattle.cht_run.specs.Judged.{Judges};
@@ -12,8 +13,9 @@ use crate::reading::{ReadStop, read_all};
 use crate::run::run_on_engine;
 use crate::status::Status;
 use cht_core::Record;
+use cht_ids::Memory;
 use cht_io::{Sink, Source};
-use cht_script::{Checked, ScriptRefused, check, not_run_yet, parse};
+use cht_script::{Checked, Script, ScriptRefused, check, not_run_yet, parse};
 use cht_session::MatLib;
 use std::alloc::Global;
 
@@ -77,19 +79,19 @@ fn run<S: Source, K: Sink>(
     match read_all(alloc, source) {
         Err(ReadStop::Failed) => Status::ReadFault,
         Err(ReadStop::Memory) => Status::Memory,
-        Ok(text) => judge(alloc, &text, out, journal),
+        Ok(text) => judge(alloc, text, out, journal),
     }
 }
 
-// Runs the script that is this text.
-fn judge<K: Sink>(alloc: Global, text: &[u8], out: &mut K, journal: &mut Record<MatLib>) -> Status
+// Runs the script that is this text, which is let go before.
+fn judge<K: Sink>(alloc: Global, text: Vec<u8>, out: &mut K, journal: &mut Record<MatLib>) -> Status
     requires empty { journal.old ≡ [] }
-    ensures judged { Judges result text.now (K.took out.old) (K.took out.new) }
+    ensures judged { Judges result text.items (K.took out.old) (K.took out.new) }
     ensures silent { IsSilent result → K.took out.new ≡ K.took out.old }
     ensures write_fault { result ≡ Status.WriteFault → Rose (K.faults out.old) (K.faults out.new) }
     ensures ends_empty { EndsEmpty matrix_plans journal.new }
     ensures no_events { IsSilent result → journal.new ≡ [] }
-    ensures journaled { Journals result text.now journal.new }
+    ensures journaled { Journals result text.items journal.new }
 {
     match examine(alloc, text) {
         Ok(checked) => run_checked(alloc, &checked, out, journal),
@@ -99,11 +101,18 @@ fn judge<K: Sink>(alloc: Global, text: &[u8], out: &mut K, journal: &mut Record<
 }
 
 // The statements of a text without a fault; else its fault.
-fn examine(alloc: Global, text: &[u8]) -> Result<Checked, ScriptRefused>
-    ensures { IsJudged text.now result }
+fn examine(alloc: Global, text: Vec<u8>) -> Result<Checked, ScriptRefused>
+    ensures { IsJudged text.items result }
 {
-    let script = parse(alloc, text)?;
+    let script = read_script(alloc, text)?;
     check(alloc, script)
+}
+
+// The statements of a text, which is let go once it is read.
+fn read_script(alloc: Global, text: Vec<u8>) -> Result<Script, Memory>
+    ensures { IfOk result (IsParsed text.items) }
+{
+    parse(alloc, &text)
 }
 
 // Runs a script without a fault, if all of its statements are run.

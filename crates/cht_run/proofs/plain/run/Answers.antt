@@ -14,13 +14,13 @@ returns-in-Err-Memory-clause-told g c = λ input told.
 pub returns-in-Ok-clause-told : goal.returns-in-Ok-clause-told
 returns-in-Ok-clause-told g c = λ input told.
     judged_input c.judge.result input c.in-Ok.text.items (g.S.Source.left c.read_all.new.source) (g.K.Sink.took c.args.out.now) (g.K.Sink.took c.judge.new.out)
-    (c.in-Ok.ensures.told input told) (rw c.deref.ensures.value at c.judge.ensures.judged)
+    (c.in-Ok.ensures.told input told) c.judge.ensures.judged
 
 pub returns-in-Ok-clause-journaled : goal.returns-in-Ok-clause-journaled
 returns-in-Ok-clause-journaled g c = λ input told.
     journaled_input c.judge.result input c.in-Ok.text.items (g.S.Source.left c.read_all.new.source) (g.K.Sink.took c.args.out.now) (g.K.Sink.took c.judge.new.out)
-    c.judge.new.journal (c.in-Ok.ensures.told input told) (rw c.deref.ensures.value at c.judge.ensures.judged)
-    (rw c.deref.ensures.value at c.judge.ensures.journaled)
+    c.judge.new.journal (c.in-Ok.ensures.told input told) c.judge.ensures.judged
+    c.judge.ensures.journaled
 
 pub returns-in-Err-Failed-clause-ends_empty : goal.returns-in-Err-Failed-clause-ends_empty
 returns-in-Err-Failed-clause-ends_empty g c = none_ends_empty c.args.journal.now c.requires.empty
