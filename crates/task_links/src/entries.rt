@@ -5,7 +5,7 @@ ghost use Rattle.std.specs.Option.{option_map};
 ghost use Rattle.std.specs.List.{list_any};
 ghost use Rattle.task_states.specs.States.{is_awaiting, status_of};
 ghost use Rattle.task_links.specs.declared.entries.Spot.{Spot as AnySpot};
-ghost use Rattle.task_links.specs.Inside.{entries_at, put_in, room_of, IsSameSize, shown_place, place_at, is_spot, with_input, shown_at, station_at, with_runner_at, with_asked_at, with_run_at, with_place_at, with_ends_at, with_follower_at, with_leader_at, shown_entry, inputs_of};
+ghost use Rattle.task_links.specs.Inside.{entries_at, put_in, room_of, IsSameSize, shown_place, place_at, is_spot, with_input, shown_at, station_at, with_run_at, with_place_at, with_ends_at, with_follower_at, with_leader_at, shown_entry, inputs_of};
 ghost use Rattle.task_links.specs.Kept.{opened, opened_place, first_in, last_in, joined_if};
 ghost use Rattle.task_links.specs.Weave.{head_at, link_at, with_next, with_ends, IsBeside, count_of};
 ghost use Rattle.task_links.specs.Order.{with_after_at, with_before_at};
@@ -110,18 +110,6 @@ impl<K: Copy> Entries<K> {
     {
         let kept = self.look(task);
         kept.open()
-    }
-
-    /// Writes the entry of a task.
-    #[inline(always)]
-    pub fn put(&mut self, task: u128, entry: Entry<K>)
-        requires { IsSome (entries_at self.old task) }
-        ensures at { (q : ℕ) → entries_at self.new q ≡ put_in task entry (entries_at self.old) q }
-        ensures size { IsSameSize self.old self.new }
-    {
-        if let Some(kept) = self.tasks.get_mut(&task) {
-            *kept = Kept::of(&entry);
-        }
     }
 
     // The input at a place.
@@ -246,30 +234,6 @@ impl<K: Copy> Entries<K> {
     {
         let (before, has_before) = split_if(before);
         self.write_before(task, before, has_before);
-    }
-
-    /// Writes the worker that runs a task.
-    pub fn set_runner(&mut self, task: u128, runner: Option<u32>)
-        requires { IsSome (entries_at self.old task) }
-        ensures at { (q : ℕ) → entries_at self.new q ≡ option_map (with_runner_at q task runner) (entries_at self.old q) }
-        ensures size { IsSameSize self.old self.new }
-    {
-        if let Some(kept) = self.tasks.get_mut(&task) {
-            kept.runner = runner;
-        }
-    }
-
-    /// Writes the number of the asked output of a task.
-    pub fn set_asked(&mut self, task: u128, asked: Option<u128>)
-        requires { IsSome (entries_at self.old task) }
-        ensures at { (q : ℕ) → entries_at self.new q ≡ option_map (with_asked_at q task asked) (entries_at self.old q) }
-        ensures size { IsSameSize self.old self.new }
-    {
-        let (asked, is_asked) = split_if(asked);
-        if let Some(kept) = self.tasks.get_mut(&task) {
-            kept.asked = asked;
-            kept.is_asked = is_asked;
-        }
     }
 
     // Writes the worker that runs a task, and the number of its asked output as it is kept.
