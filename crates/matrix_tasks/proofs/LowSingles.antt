@@ -1,5 +1,5 @@
 -- What the kinds with one input answer at height 0 is sound.
-use Rattle.std.proofs.Common.{◌≡◌, ℕ, zero, suc, true, false, Option, List, [], ◌∷◌, refl, sym, ap, ◌∙◌, subst, subst₂, inl, inr, arith}
+use Rattle.std.proofs.Common.{◌≡◌, ℕ, true, false, Option, List, [], ◌∷◌, refl, sym, ap, ◌∙◌, subst, subst₂, inl, inr}
 use Rattle.std.proofs.lemmas.Bool.{false≢true}
 use Rattle.dense_def.specs.Matrix.{Matrix, trace_of}
 use Rattle.task_types.specs.declared.inputs.Inputs.{Inputs}

@@ -13,7 +13,7 @@ fn is_known_by<K: Kinds>(kind: K, text: &[u8], name: &[u8], height: u32) -> bool
 
 #[test]
 fn kinds_are_known_by_their_names_and_heights(rt: HostRuntime) {
-    let cases: [(&str, &str, What, u32); 9] = [
+    let cases: [(&str, &str, What, u32); 19] = [
         ("assign 0", "assign", What::Assign, 0),
         ("add 16", "add", What::Add, 16),
         ("mul 2", "mul", What::Mul, 2),
@@ -23,6 +23,16 @@ fn kinds_are_known_by_their_names_and_heights(rt: HostRuntime) {
         ("join 17", "join", What::Join, 17),
         ("trace 4294967295", "trace", What::Trace, 4294967295),
         ("addnum 3", "addnum", What::AddNum, 3),
+        ("sassign 5", "sassign", What::SAssign, 5),
+        ("sadd 16", "sadd", What::SAdd, 16),
+        ("square 4", "square", What::Square, 4),
+        ("rankmul 1", "rankmul", What::RankMul, 1),
+        ("trank 0", "trank", What::TRank, 0),
+        ("smul 12", "smul", What::SMul, 12),
+        ("muls 2", "muls", What::MulS, 2),
+        ("full 9", "full", What::Full, 9),
+        ("sjoin 1", "sjoin", What::SJoin, 1),
+        ("strace 16", "strace", What::STrace, 16),
     ];
     for (text, name, what, height) in &cases {
         let kind = MatKind {

@@ -1,5 +1,5 @@
 -- The side of the leaves of trees.
-use Rattle.std.proofs.Common.{◌≡◌, ℕ, zero, suc, ◌<◌, ◌≤◌, max, Bool, true, false, ◌==◌, unsigned_abs, refl, sym, ap, ◌∙◌, arith, ⊎_elim, pos_of_ne-zero, le_of_eq, ◌⊎◌, inl, inr, List, [], ◌∷◌}
+use Rattle.std.proofs.Common.{◌≡◌, ℕ, zero, suc, ◌<◌, ◌≤◌, max, Bool, true, ◌==◌, unsigned_abs, refl, sym, ap, ◌∙◌, arith, ⊎_elim, pos_of_ne-zero, le_of_eq, ◌⊎◌, inl, inr, List, [], ◌∷◌}
 use Rattle.std.specs.List.{AllByRecursion}
 use Rattle.std.proofs.lemmas.Bool.{cases_eq, cases_lt, true≢false, cond_both}
 use Rattle.dense_def.specs.Matrix.{Matrix, height, IsMatrix, joined, peak_of, IsSymmetric}

@@ -1,9 +1,9 @@
 -- Canonical symmetric trees of blocks: what they stand for, where they are nothing, their roots and their children.
-use Rattle.std.proofs.Common.{◌≡◌, ℕ, zero, suc, ◌+◌, ◌<◌, ◌≤◌, max, true, false, not, ◌==◌, refl, sym, ap, ◌∙◌, subst, arith, eq-eqb, ne_eqb, ⊎_elim, pos_of_ne-zero}
+use Rattle.std.proofs.Common.{◌≡◌, ℕ, zero, suc, ◌+◌, ◌<◌, ◌≤◌, true, false, not, ◌==◌, refl, sym, ap, ◌∙◌, subst, arith, eq-eqb, ne_eqb, ⊎_elim}
 use Rattle.std.proofs.lemmas.Bool.{cases_eq, cond-true, cond-false, true≢false}
 use Rattle.dense_def.specs.Matrix.{Matrix, height, entry, IsMatrix, block, joined, transposed, zeros, peak_of, IsSymmetric}
 use Rattle.dense_def.proofs.Entries.{same_matrix, IsMatrix-made}
-use Rattle.dense_def.proofs.Operations.{entry-transposed, height-transposed, IsSymmetric-entry, IsSymmetric-square}
+use Rattle.dense_def.proofs.Operations.{entry-transposed, height-transposed, IsSymmetric-entry}
 use Rattle.dense_def.proofs.Blocks.{height-block, IsMatrix-block, entry-block, entry-block_left, entry-block_top, joined-block, joined_same}
 use Rattle.dense_def.proofs.Zeros.{transposed-zeros}
 use Rattle.leaf_blocks.specs.Block.{IsBlock}

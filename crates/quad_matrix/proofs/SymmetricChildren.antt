@@ -1,6 +1,6 @@
 -- The goals of symmetric kinds, by the children of their inputs.
 use Rattle.std.proofs.Common.{◌≡◌, ℕ, suc, ◌+◌, ◌^◌, ◌≤◌, [], ◌∷◌, ◌+ℤ◌, unsigned_abs, refl, sym, ap, ap₂, ◌∙◌, subst, subst₂}
-use Rattle.dense_def.specs.Matrix.{Matrix, height, plus, joined, transposed, trace_of, QuadrantsFit, SumFits, TraceFits}
+use Rattle.dense_def.specs.Matrix.{Matrix, height, plus, transposed, trace_of, QuadrantsFit, SumFits, TraceFits}
 use Rattle.dense_def.proofs.Operations.{transposed-plus}
 use Rattle.dense_def.proofs.Blocks.{joined_same}
 use Rattle.dense_def.proofs.Quadrants.{plus-joined, trace-joined}

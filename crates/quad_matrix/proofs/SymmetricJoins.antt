@@ -1,5 +1,5 @@
 -- Canonical symmetric trees joined of three.
-use Rattle.std.proofs.Common.{◌≡◌, ℕ, zero, suc, max, Bool, true, false, [], ◌∷◌, refl, sym, ap, ◌∙◌, subst, arith, ⊎_elim}
+use Rattle.std.proofs.Common.{◌≡◌, ℕ, zero, suc, max, true, false, [], ◌∷◌, refl, sym, ap, ◌∙◌, subst, arith, ⊎_elim}
 use Rattle.std.proofs.lemmas.Bool.{cases_Bool, true≢false}
 use Rattle.dense_def.specs.Matrix.{Matrix, joined, transposed, peak_of, IsSymmetric}
 use Rattle.dense_def.proofs.Quadrants.{IsSymmetric-joined}

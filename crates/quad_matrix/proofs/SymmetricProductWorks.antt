@@ -3,7 +3,6 @@ use Rattle.std.proofs.Common.{◌≡◌, ℕ, zero, suc, ◌+◌, Bool, true, fa
 use Rattle.std.proofs.lemmas.Bool.{or_parts}
 use Rattle.task_types.specs.declared.outcome.NewTask.{NewTask}
 use Rattle.task_types.specs.Tree.{Tree, is_there, child}
-use Rattle.task_types.specs.Places.{Shape}
 use Rattle.task_types.specs.Presence.{Presence, Absent, presence_of, has_child}
 use Rattle.quad_matrix.specs.declared.chunk.MatChunk.{MatChunk}
 use Rattle.quad_matrix.specs.declared.kind.What.{What}
@@ -17,7 +16,7 @@ use Rattle.task_plans.specs.Plans.{Draft, no_draft, with_pair, with_parts, are_n
 use Rattle.task_plans.specs.Steps.{term_trees}
 use Rattle.quad_matrix.specs.Plans.{kept_child, symmetric_first, symmetric_first_term, symmetric_second, symmetric_second_term, quadrants_plan, square_term, rank_term, transposed_rank_term, symmetric_quadrants_plan}
 use Rattle.quad_matrix.specs.Products.{child_in}
-use Rattle.quad_matrix.specs.Works.{asked, work_of, are_both, add_work, symmetric_add_work, pair_works, first_term_work, symmetric_first_work, second_term_work, symmetric_second_work, rank_work, transposed_rank_work, square_work}
+use Rattle.quad_matrix.specs.Works.{asked, work_of, are_both, add_work, pair_works, first_term_work, symmetric_first_work, second_term_work, symmetric_second_work, rank_work, transposed_rank_work, square_work}
 use Rattle.task_plans.proofs.ForOthers.{IsPlainTask, pair_list, pair_work, pair_null, ended_work}
 use Rattle.quad_matrix.proofs.Sides.{suc-sub_one}
 use Rattle.quad_matrix.proofs.DraftWorks.{total, draft_work}

@@ -1,6 +1,6 @@
 -- Products with symmetric blocks: their goals are canonical, and nothing on nothing.
 use Rattle.std.proofs.Common.{◌≡◌, ℕ, [], ◌∷◌, ap, ◌∙◌}
-use Rattle.dense_def.specs.Matrix.{Matrix, IsSymmetric, zeros, times, mult_of, tmul_of}
+use Rattle.dense_def.specs.Matrix.{zeros, times, mult_of, tmul_of}
 use Rattle.dense_def.proofs.Operations.{IsSymmetric-times, IsSymmetric-mult_of, IsSymmetric-tmul_of}
 use Rattle.task_types.specs.Tree.{Tree, Nothing}
 use Rattle.chunk_codec.specs.Spots.{side_of}

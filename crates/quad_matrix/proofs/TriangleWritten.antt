@@ -1,5 +1,5 @@
 -- The upper triangle of a square of numbers into which entries are written one after another.
-use Rattle.std.proofs.Common.{◌≡◌, ℕ, suc, ◌+◌, ◌-◌, ◌*◌, ◌^◌, ◌<◌, ◌≤◌, min, max, Bool, true, false, ◌==◌, List, length, get_or, set, take, cond, ℤ, pos, unsigned_abs, IsTrue, ⊎_elim, sym, ap, ap₂, subst, ◌∙◌, arith, length-set, get_or-set_same, get_or-set_other}
+use Rattle.std.proofs.Common.{◌≡◌, ℕ, ◌+◌, ◌-◌, ◌^◌, ◌<◌, ◌≤◌, min, max, ◌==◌, List, length, get_or, set, take, ℤ, pos, unsigned_abs, IsTrue, ⊎_elim, sym, ap, ap₂, subst, ◌∙◌, arith, length-set, get_or-set_same, get_or-set_other}
 use Rattle.std.specs.List.{All}
 use Rattle.std.proofs.lemmas.Bool.{eqb-true, eq-eqb, and_parts, and_from, cond_both, both_ways, cases_lt}
 use Rattle.std.proofs.lemmas.List.{take_more, take_all}
