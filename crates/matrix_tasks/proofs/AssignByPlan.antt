@@ -29,7 +29,7 @@ use Rattle.matrix_tasks.proofs.Joins.{shapes_open}
 use Rattle.matrix_tasks.proofs.ByPlan.{task_gives, join_gives, parts_below}
 
 -- a list with an entry has one
-has_first : (spot : Spot) (spots : List Spot) → has_spot (spot ∷ spots) ≡ true
+pub has_first : (spot : Spot) (spots : List Spot) → has_spot (spot ∷ spots) ≡ true
 has_first spot spots = ap not (ne_eqb (length (spot ∷ spots)) 0 (λ e. absurd (omega arith)))
 
 -- and is a content

@@ -56,7 +56,7 @@ parts_below rank h inputs portions parts trees gives =
 -- ---- Sums
 
 -- the sum of two children, of which one may be missing
-add_gives : (b h rank : ℕ) (x y : Tree MatChunk) → b ≤ 64 → h ≤ 16 → 4 * h + 1 < rank → FitsAt b Add h (x ∷ y ∷ [])
+pub add_gives : (b h rank : ℕ) (x y : Tree MatChunk) → b ≤ 64 → h ≤ 16 → 4 * h + 1 < rank → FitsAt b Add h (x ∷ y ∷ [])
     → EitherGives matrices rank (kind_of Add h) x y (goal_at b Add h (x ∷ y ∷ [])) (is_there x) (is_there y)
 add_gives b h rank Nothing Nothing side low lower fits = sym (add_nothing b h)
 add_gives b h rank (Root c x0 x1 x2 x3) Nothing side low lower fits = sym (add_with_nothing b h (Root c x0 x1 x2 x3) fits)

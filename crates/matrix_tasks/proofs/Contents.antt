@@ -65,11 +65,11 @@ listed_side side spots m e low = subst (λ (m : Matrix). height m ≤ 64) (sym e
 -- ---- Nodes
 
 -- the peak of a canonical tree is small
-tree_small : (b h : ℕ) (t : Tree MatChunk) → IsCanonical b h t → tree_peak t ≤ 2 ^ 126
+pub tree_small : (b h : ℕ) (t : Tree MatChunk) → IsCanonical b h t → tree_peak t ≤ 2 ^ 126
 tree_small b h t is = omega (arith, peak_of_tree b h t is, peak_small _ (block_of b h t) is.sized)
 
 -- and is not 0 where the tree is there
-tree_some : (b h : ℕ) (c : MatChunk) (x y z w : Tree MatChunk) → IsCanonical b h (Root c x y z w) → 1 ≤ tree_peak (Root c x y z w)
+pub tree_some : (b h : ℕ) (c : MatChunk) (x y z w : Tree MatChunk) → IsCanonical b h (Root c x y z w) → 1 ≤ tree_peak (Root c x y z w)
 tree_some b h c x y z w is = lemma (tree_peak (Root c x y z w)) refl
   where
     lemma : (k : ℕ) → tree_peak (Root c x y z w) ≡ k → 1 ≤ tree_peak (Root c x y z w)

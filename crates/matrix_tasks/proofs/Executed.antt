@@ -34,7 +34,7 @@ use Rattle.matrix_tasks.proofs.ProductsByPlan.{product_by_plan, transpose_by_pla
 use Rattle.matrix_tasks.proofs.AssignByPlan.{list_by_plan, portions_sound}
 
 -- the answer of a kind, by what is known of its inputs and by the entries that the first one shows
-answer_is : (what : What) (h : ℕ) (inputs : Inputs MatChunk) (known : List Presence) (shown : Option Entries)
+pub answer_is : (what : What) (h : ℕ) (inputs : Inputs MatChunk) (known : List Presence) (shown : Option Entries)
     → presences_in inputs ≡ known → entries_shown inputs.first ≡ shown
     → planned_answer (kind_of what (suc h)) inputs ≡ planned_outcome kind_at (suc h) (plan_of what) (portions_shown what shown) known
 answer_is what h inputs known shown e f =
@@ -132,7 +132,7 @@ plan_sound what (suc h) inputs serves e high there trees shows d = at_height wha
 -- ---- The entries that are split
 
 -- a canonical tree of height at least 1 shows no entries
-no_entries : (b h : ℕ) (x : Tree MatChunk) → IsCanonical b (suc h) x → entries_shown (view_of x) ≡ None
+pub no_entries : (b h : ℕ) (x : Tree MatChunk) → IsCanonical b (suc h) x → entries_shown (view_of x) ≡ None
 no_entries b h Nothing is = refl
 no_entries b h (Root c x0 x1 x2 x3) is =
     ap (λ (content : MatChunk). entries_shown (view.There content (mask (is_there x0) (is_there x1) (is_there x2) (is_there x3)))) (root_of_node b h c x0 x1 x2 x3 is)

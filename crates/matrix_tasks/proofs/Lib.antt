@@ -7,6 +7,7 @@ pub mod LowSingles
 pub mod ByPlan
 pub mod AssignByPlan
 pub mod Executed
-mod Factors
-mod LowProducts
-mod ProductsByPlan
+pub mod ForOthers
+pub mod Factors
+pub mod LowProducts
+pub mod ProductsByPlan

@@ -80,12 +80,12 @@ pair_gives b h rank turned x y u v true true side low lower one other both ea ec
     )
 
 -- a test and true
-and-true : (b : Bool) → (b && true) ≡ b
+pub and-true : (b : Bool) → (b && true) ≡ b
 and-true true = refl
 and-true false = refl
 
 -- a term is ready where both children are there
-ready_is : (x y : Tree MatChunk) (p q : ℕ) → (is_there (child x p) && is_there (child y q)) ≡ (has_child (presence_of x) p && (has_child (presence_of y) q && true))
+pub ready_is : (x y : Tree MatChunk) (p q : ℕ) → (is_there (child x p) && is_there (child y q)) ≡ (has_child (presence_of x) p && (has_child (presence_of y) q && true))
 ready_is x y p q = sym (ap₂ ◌&&◌ (child_known x p) (and-true (has_child (presence_of y) q) ∙ child_known y q))
 
 -- ---- Quadrants
@@ -190,7 +190,7 @@ product_by_plan Second = plan_made Second
 -- ---- Transposes
 
 -- the transpose of a child, which may be missing
-child_gives : (b h rank : ℕ) (x : Tree MatChunk) (a : Bool) → b ≤ 64 → h ≤ 16 → 4 * h + 1 < rank → IsCanonical b h x → is_there x ≡ a
+pub child_gives : (b h rank : ℕ) (x : Tree MatChunk) (a : Bool) → b ≤ 64 → h ≤ 16 → 4 * h + 1 < rank → IsCanonical b h x → is_there x ≡ a
     → AloneGives matrices rank (kind_of Transpose h) (x ∷ []) (goal_at b Transpose h (x ∷ [])) a
 child_gives b h rank Nothing false side low lower is e = sym (transpose_of_nothing b h)
 child_gives b h rank Nothing true side low lower is e = absurd (false≢true e)
@@ -199,7 +199,7 @@ child_gives b h rank (Root c x0 x1 x2 x3) true side low lower is e =
     let x : Tree MatChunk = Root c x0 x1 x2 x3 in
     task_gives b Transpose h rank (x ∷ []) (goal_at b Transpose h (x ∷ [])) side low lower is refl
 
-child_ready : (x : Tree MatChunk) (q : ℕ) → is_there (child x q) ≡ (has_child (presence_of x) q && true)
+pub child_ready : (x : Tree MatChunk) (q : ℕ) → is_there (child x q) ≡ (has_child (presence_of x) q && true)
 child_ready x q = sym (and-true (has_child (presence_of x) q) ∙ child_known x q)
 
 pub transpose_by_plan : (b h : ℕ) (portions : Portions MatChunk) (x : Tree MatChunk) → b ≤ 64 → suc h ≤ 16

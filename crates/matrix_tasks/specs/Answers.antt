@@ -88,7 +88,7 @@ join_answer height inputs =
 abbrev pub NodeFits : ℕ → Inputs MatChunk → Type 0
 NodeFits height inputs = are_null (join_places (presences_in inputs)) ≡ false → IsSoundNode height (greatest_peak inputs)
 
--- where an input is null: of a sum the other input, else null; joins and symmetric kinds are not asked for it
+-- where an input is null: of a sum the other input, else null; joins are not asked for it
 abbrev pub null_place : What → List Presence → Place
 null_place Assign known = Null
 null_place Add known = other_place known
@@ -100,7 +100,7 @@ null_place Join known = Null
 null_place Trace known = Null
 null_place AddNum known = other_place known
 null_place SAssign known = Null
-null_place SAdd known = Null
+null_place SAdd known = other_place known
 null_place Square known = Null
 null_place RankMul known = Null
 null_place TRank known = Null

@@ -10,8 +10,8 @@ use std::alloc::Global;
 use task_plans::{Portions, planned};
 use task_types::{Inputs, Outcome, View};
 
-// The answer of a kind of height at least 1 whose inputs are there.
-pub(crate) fn answer(
+/// The answer of a kind of height at least 1, general or symmetric, whose inputs are there: by its plan.
+pub fn answer_by_plan(
     alloc: Global,
     kind: MatKind,
     inputs: &Inputs<MatChunk>,

@@ -3,7 +3,7 @@ ghost use Rattle.std.specs.Prelude.{◌≡◌, IfOk, option_copied};
 ghost use Rattle.quad_matrix.specs.Products.{Neither, First, Second};
 ghost use Rattle.matrix_tasks.specs.Answers.{leaf_shown, LeavesFit, add_answer, FactorsAreLeaves, product_answer, IsLeaf, transpose_answer, LeafFits, trace_answer, entries_shown, AreForLeaf, assign_answer};
 
-use crate::outcomes::{leaf, number};
+use crate::outcomes::{leaf_outcome, number_outcome};
 use cht_ids::Memory;
 use leaf_blocks::Leaf;
 use quad_matrix::{Entries, MatChunk, MatKind, leaf_block};
@@ -21,7 +21,7 @@ pub(crate) fn add(
         (λ outcome. outcome ≡ add_answer (leaf_shown inputs.now.first) (leaf_shown inputs.now.second)) }
 {
     match (leaf_shown(&inputs.first), leaf_shown(&inputs.second)) {
-        (Some(first), Some(second)) => leaf(alloc, first.add(second)?),
+        (Some(first), Some(second)) => leaf_outcome(alloc, first.add(second)?),
         _ => Ok(given(alloc, Place::Null)),
     }
 }
@@ -36,7 +36,7 @@ pub(crate) fn mul(
         (λ outcome. outcome ≡ product_answer Neither (leaf_shown inputs.now.first) (leaf_shown inputs.now.second)) }
 {
     match (leaf_shown(&inputs.first), leaf_shown(&inputs.second)) {
-        (Some(first), Some(second)) => leaf(alloc, first.mul(second)?),
+        (Some(first), Some(second)) => leaf_outcome(alloc, first.mul(second)?),
         _ => Ok(given(alloc, Place::Null)),
     }
 }
@@ -51,7 +51,7 @@ pub(crate) fn tmul(
         (λ outcome. outcome ≡ product_answer First (leaf_shown inputs.now.first) (leaf_shown inputs.now.second)) }
 {
     match (leaf_shown(&inputs.first), leaf_shown(&inputs.second)) {
-        (Some(first), Some(second)) => leaf(alloc, first.tmul(second)?),
+        (Some(first), Some(second)) => leaf_outcome(alloc, first.tmul(second)?),
         _ => Ok(given(alloc, Place::Null)),
     }
 }
@@ -66,7 +66,7 @@ pub(crate) fn mult(
         (λ outcome. outcome ≡ product_answer Second (leaf_shown inputs.now.first) (leaf_shown inputs.now.second)) }
 {
     match (leaf_shown(&inputs.first), leaf_shown(&inputs.second)) {
-        (Some(first), Some(second)) => leaf(alloc, first.mult(second)?),
+        (Some(first), Some(second)) => leaf_outcome(alloc, first.mult(second)?),
         _ => Ok(given(alloc, Place::Null)),
     }
 }
@@ -80,7 +80,7 @@ pub(crate) fn transpose(
     ensures { IfOk result (λ outcome. outcome ≡ transpose_answer (leaf_shown inputs.now.first)) }
 {
     match leaf_shown(&inputs.first) {
-        Some(block) => leaf(alloc, block.transpose()?),
+        Some(block) => leaf_outcome(alloc, block.transpose()?),
         None => Ok(given(alloc, Place::Null)),
     }
 }
@@ -95,13 +95,13 @@ pub(crate) fn trace(
     ensures { IfOk result (λ outcome. outcome ≡ trace_answer (leaf_shown inputs.now.first)) }
 {
     match leaf_shown(&inputs.first) {
-        Some(block) => number(alloc, block.trace()),
+        Some(block) => number_outcome(alloc, block.trace()),
         None => Ok(given(alloc, Place::Null)),
     }
 }
 
-// The leaf that an input shows, if it shows one.
-fn leaf_shown(input: &View<MatChunk>) -> Option<&Leaf>
+/// The leaf that an input shows, if it shows one.
+pub fn leaf_shown(input: &View<MatChunk>) -> Option<&Leaf>
     ensures { option_copied result ≡ leaf_shown input.now }
 {
     match input {
@@ -123,13 +123,13 @@ pub(crate) fn assign(
     ensures { IfOk result (λ outcome. outcome ≡ assign_answer (entries_shown inputs.now.first)) }
 {
     match entries_shown(&inputs.first) {
-        Some(entries) => leaf(alloc, leaf_block(alloc, entries)?),
+        Some(entries) => leaf_outcome(alloc, leaf_block(alloc, entries)?),
         None => Ok(given(alloc, Place::Null)),
     }
 }
 
-// The entries that an input shows, if it shows some.
-pub(crate) fn entries_shown(input: &View<MatChunk>) -> Option<&Entries>
+/// The entries that an input shows, if it shows some.
+pub fn entries_shown(input: &View<MatChunk>) -> Option<&Entries>
     ensures { option_copied result ≡ entries_shown input.now }
 {
     match input {

@@ -16,7 +16,12 @@ mod nulls;
 mod numbers;
 mod outcomes;
 
+pub use by_plan::answer_by_plan;
 use cht_ids::Memory;
+pub use leaves::{entries_shown, leaf_shown};
+pub use nodes::peak_shown;
+pub use nulls::null_place;
+pub use outcomes::{leaf_outcome, number_outcome};
 use quad_matrix::{MatChunk, MatKind, What};
 use std::alloc::Global;
 use task_plans::given;
@@ -53,7 +58,7 @@ pub fn run_general(
         return Ok(given(alloc, output));
     }
     if kind.height > 0 {
-        return by_plan::answer(alloc, kind, inputs);
+        return by_plan::answer_by_plan(alloc, kind, inputs);
     }
     at_height_0(alloc, kind, inputs)
 }

@@ -34,13 +34,13 @@ pub(crate) fn join(
 pub(crate) fn greatest_peak(inputs: &Inputs<MatChunk>) -> u128
     ensures { result ≡ greatest_peak inputs.now }
 {
-    let upper = peak(&inputs.first).max(peak(&inputs.second));
-    let lower = peak(&inputs.third).max(peak(&inputs.fourth));
+    let upper = peak_shown(&inputs.first).max(peak_shown(&inputs.second));
+    let lower = peak_shown(&inputs.third).max(peak_shown(&inputs.fourth));
     upper.max(lower)
 }
 
-// The peak of an input, and 0 where it is null.
-fn peak(input: &View<MatChunk>) -> u128
+/// The peak of an input, and 0 where it is null.
+pub fn peak_shown(input: &View<MatChunk>) -> u128
     ensures { result ≡ peak_shown input.now }
 {
     match input {

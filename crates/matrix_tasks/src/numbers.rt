@@ -2,7 +2,7 @@
 ghost use Rattle.std.specs.Prelude.{◌≡◌, ◌+◌, ◌^◌, ◌≤◌, ◌+ℤ◌, unsigned_abs, IfOk};
 ghost use Rattle.matrix_tasks.specs.Answers.{number_shown, number_outcome};
 
-use crate::outcomes::number;
+use crate::outcomes::number_outcome;
 use cht_ids::Memory;
 use quad_matrix::{MatChunk, MatKind};
 use std::alloc::Global;
@@ -17,7 +17,7 @@ pub(crate) fn add(
     ensures { IfOk result
         (λ outcome. outcome ≡ number_outcome (number_shown inputs.now.first +ℤ number_shown inputs.now.second)) }
 {
-    number(
+    number_outcome(
         alloc,
         number_shown(&inputs.first) + number_shown(&inputs.second),
     )

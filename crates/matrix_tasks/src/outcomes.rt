@@ -20,9 +20,9 @@ fn is_zero(block: &Leaf) -> bool
     block.is_zero()
 }
 
-// A block as a leaf, or null where it is zero.
+/// A block of a side of at most 64 as a leaf chunk, or null where it is zero.
 #[tactic(auto, using(crate::proofs::Contents::sound_leaf))]
-pub(crate) fn leaf(alloc: Global, block: Leaf) -> Result<Outcome<MatChunk, MatKind>, Memory>
+pub fn leaf_outcome(alloc: Global, block: Leaf) -> Result<Outcome<MatChunk, MatKind>, Memory>
     requires { height block ≤ 64 }
     ensures { IfOk result (λ outcome. outcome ≡ leaf_outcome block) }
 {
@@ -32,9 +32,9 @@ pub(crate) fn leaf(alloc: Global, block: Leaf) -> Result<Outcome<MatChunk, MatKi
     one_chunk(alloc, MatChunk::Leaf(block), &[])
 }
 
-// A number as a chunk, or null for 0.
+/// A number as a chunk, or null for 0.
 #[tactic(auto, using(crate::proofs::Contents::sound_number))]
-pub(crate) fn number(alloc: Global, n: i128) -> Result<Outcome<MatChunk, MatKind>, Memory>
+pub fn number_outcome(alloc: Global, n: i128) -> Result<Outcome<MatChunk, MatKind>, Memory>
     requires { unsigned_abs n ≤ 2 ^ 126 }
     ensures { IfOk result (λ outcome. outcome ≡ number_outcome n) }
 {

@@ -22,10 +22,10 @@ pub returns-then-not-all_present : goal.returns-then-not-all_present
 returns-then-not-all_present c =
     λ trees s d. subst (λ answer. IsSound arity_of matrices c.args.kind trees answer) (sym (c.given.ensures ∙ ap given c.null_place-output.ensures)) (null_sound c.args.kind.what c.args.kind.height c.args.inputs.now c.requires.serves c.in_default.not-Join (sym c.if-not-all_present.ensures) trees s d)
 
-pub answer-requires : goal.answer-requires
-answer-requires c =
+pub answer_by_plan-requires : goal.answer_by_plan-requires
+answer_by_plan-requires c =
     have_portions c.args.kind.what c.args.kind.height c.args.inputs.now c.requires.serves c.in_default.not-Join (omega arith) c.requires.defined.0 c.requires.defined.1 c.requires.defined.2
 
 pub returns-then-kind-gt0 : goal.returns-then-kind-gt0
 returns-then-kind-gt0 c =
-    IfOk-weaker c.answer.result _ _ (λ outcome e trees s d. subst (λ answer. IsSound arity_of matrices c.args.kind trees answer) (sym e) (plan_sound c.args.kind.what c.args.kind.height c.args.inputs.now c.requires.serves c.in_default.not-Join (omega arith) (sym c.if-not-all_present.ensures) trees s d)) c.answer.ensures
+    IfOk-weaker c.answer_by_plan.result _ _ (λ outcome e trees s d. subst (λ answer. IsSound arity_of matrices c.args.kind trees answer) (sym e) (plan_sound c.args.kind.what c.args.kind.height c.args.inputs.now c.requires.serves c.in_default.not-Join (omega arith) (sym c.if-not-all_present.ensures) trees s d)) c.answer_by_plan.ensures
