@@ -19,7 +19,7 @@ use Rattle.quad_matrix.specs.declared.chunk.MatChunk.TheVariants.{Leaf, Node, Nu
 use Rattle.quad_matrix.specs.declared.chunk.MatChunk.TheVariants as chunk
 use Rattle.quad_matrix.specs.declared.chunk.Entries.{Entries}
 use Rattle.quad_matrix.specs.declared.kind.What.{What}
-use Rattle.quad_matrix.specs.declared.kind.What.TheVariants.{Assign, Add, Mul, TMul, MulT, Transpose, Join, Trace, AddNum}
+use Rattle.quad_matrix.specs.declared.kind.What.TheVariants.{Assign, Add, Mul, TMul, MulT, Transpose, Join, Trace, AddNum, SAssign, SAdd, Square, RankMul, TRank, SMul, MulS, Full, SJoin, STrace}
 use Rattle.chunk_codec.specs.Spots.{side_of, AreSoundSpots}
 use Rattle.chunk_codec.specs.declared.plain.Spot.{Spot}
 use Rattle.quad_matrix.specs.Spots.{AreSoundEntries}
@@ -163,18 +163,38 @@ product_has_goal Transpose h inputs is low count a b = absurd (false≢true is)
 product_has_goal Join h inputs is low count a b = absurd (false≢true is)
 product_has_goal Trace h inputs is low count a b = absurd (false≢true is)
 product_has_goal AddNum h inputs is low count a b = absurd (false≢true is)
+product_has_goal SAssign h inputs is low count a b = absurd (false≢true is)
+product_has_goal SAdd h inputs is low count a b = absurd (false≢true is)
+product_has_goal Square h inputs is low count a b = absurd (false≢true is)
+product_has_goal RankMul h inputs is low count a b = absurd (false≢true is)
+product_has_goal TRank h inputs is low count a b = absurd (false≢true is)
+product_has_goal SMul h inputs is low count a b = absurd (false≢true is)
+product_has_goal MulS h inputs is low count a b = absurd (false≢true is)
+product_has_goal Full h inputs is low count a b = absurd (false≢true is)
+product_has_goal SJoin h inputs is low count a b = absurd (false≢true is)
+product_has_goal STrace h inputs is low count a b = absurd (false≢true is)
 
--- each kind is served
-pub is_served : (what : What) → IsTrue (is_general what)
-is_served Assign = refl
-is_served Add = refl
-is_served Mul = refl
-is_served TMul = refl
-is_served MulT = refl
-is_served Transpose = refl
-is_served Join = refl
-is_served Trace = refl
-is_served AddNum = refl
+-- run_general serves the products
+pub is_served : (what : What) → IsTrue (is_product what) → IsTrue (is_general what)
+is_served Mul is = refl
+is_served TMul is = refl
+is_served MulT is = refl
+is_served Assign is = absurd (false≢true is)
+is_served Add is = absurd (false≢true is)
+is_served Transpose is = absurd (false≢true is)
+is_served Join is = absurd (false≢true is)
+is_served Trace is = absurd (false≢true is)
+is_served AddNum is = absurd (false≢true is)
+is_served SAssign is = absurd (false≢true is)
+is_served SAdd is = absurd (false≢true is)
+is_served Square is = absurd (false≢true is)
+is_served RankMul is = absurd (false≢true is)
+is_served TRank is = absurd (false≢true is)
+is_served SMul is = absurd (false≢true is)
+is_served MulS is = absurd (false≢true is)
+is_served Full is = absurd (false≢true is)
+is_served SJoin is = absurd (false≢true is)
+is_served STrace is = absurd (false≢true is)
 
 pub transpose_has_goal : (h : ℕ) (inputs : Inputs MatChunk) → h ≤ 1 → inputs.count ≡ 1 → ShowsBlock h inputs.first
     → HasGoal matrices (kind_of Transpose h) inputs

@@ -10,7 +10,7 @@ use Rattle.task_types.specs.Shown.{view_of, mask, presence_in}
 use Rattle.quad_matrix.specs.declared.chunk.MatChunk.{MatChunk}
 use Rattle.quad_matrix.specs.declared.chunk.MatChunk.TheVariants.{Node}
 use Rattle.quad_matrix.specs.declared.kind.What.{What}
-use Rattle.quad_matrix.specs.declared.kind.What.TheVariants.{Assign, Add, Mul, TMul, MulT, Transpose, Join, Trace, AddNum}
+use Rattle.quad_matrix.specs.declared.kind.What.TheVariants.{Assign, Add, Mul, TMul, MulT, Transpose, Join, Trace, AddNum, SAssign, SAdd, Square, RankMul, TRank, SMul, MulS, Full, SJoin, STrace}
 use Rattle.quad_matrix.specs.Blocks.{block_of, number_of, IsCanonical, IsNumber}
 use Rattle.matrix_tasks.specs.Answers.{greatest_peak}
 
@@ -28,7 +28,7 @@ ShowsNumber shown =
 abbrev pub shows_some : View MatChunk → Bool
 shows_some shown = is_present (presence_in shown)
 
--- whether a kind is a product of two blocks
+-- whether a kind is a product of two general blocks
 abbrev pub is_product : What → Bool
 is_product Assign = false
 is_product Add = false
@@ -39,6 +39,16 @@ is_product Transpose = false
 is_product Join = false
 is_product Trace = false
 is_product AddNum = false
+is_product SAssign = false
+is_product SAdd = false
+is_product Square = false
+is_product RankMul = false
+is_product TRank = false
+is_product SMul = false
+is_product MulS = false
+is_product Full = false
+is_product SJoin = false
+is_product STrace = false
 
 -- what shows a block of this height, where inputs show its quadrants
 abbrev pub over : ℕ → Inputs MatChunk → View MatChunk

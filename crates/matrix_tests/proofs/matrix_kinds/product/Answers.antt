@@ -4,7 +4,7 @@ use Rattle.matrix_tests.proofs.MatrixInputs.{product_has_goal, is_served}
 use Rattle.matrix_tests.proofs.matrix_kinds.product.Goals as goal
 
 pub run_general-requires-clause-serves : goal.run_general-requires-clause-serves
-run_general-requires-clause-serves c = is_served c.args.what
+run_general-requires-clause-serves c = is_served c.args.what c.requires.product
 
 pub run_general-requires-clause-defined : goal.run_general-requires-clause-defined
 run_general-requires-clause-defined c =
