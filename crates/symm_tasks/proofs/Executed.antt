@@ -20,17 +20,19 @@ use Rattle.quad_matrix.specs.declared.kind.What.{What}
 use Rattle.quad_matrix.specs.declared.kind.What.TheVariants.{Assign, Add, Mul, TMul, MulT, Transpose, Join, Trace, AddNum, SAssign, SAdd, Square, RankMul, TRank, SMul, MulS, Full, SJoin, STrace}
 use Rattle.quad_matrix.specs.declared.kind.MatKind.{MatKind}
 use Rattle.quad_matrix.specs.Chunks.{arity_of}
-use Rattle.quad_matrix.specs.Blocks.{IsCanonicalSymmetric}
+use Rattle.quad_matrix.specs.Blocks.{IsCanonical, IsCanonicalSymmetric}
 use Rattle.quad_matrix.specs.Goals.{kind_of, kind_at, FitsAt, IsDefined}
 use Rattle.quad_matrix.specs.Matrices.{matrices}
 use Rattle.quad_matrix.specs.Plans.{plan_of, inputs_of}
 use Rattle.quad_matrix.proofs.ForOthers.{root_of_symmetric_node}
 use Rattle.matrix_tasks.specs.Answers.{entries_shown}
 use Rattle.matrix_tasks.specs.ByPlan.{portions_shown, HasPortions, planned_answer}
-use Rattle.matrix_tasks.proofs.ForOthers.{answer_is}
-use Rattle.symm_tasks.specs.Answers.{is_served}
+use Rattle.matrix_tasks.proofs.ForOthers.{answer_is, no_entries}
+use Rattle.symm_tasks.specs.Answers.{is_symmetric}
 use Rattle.symm_tasks.proofs.ShownTrees.{HoldsOfOne, HoldsOfTwo, one_there, two_there}
 use Rattle.symm_tasks.proofs.ByPlan.{symmetric_add_by_plan, full_by_plan, symmetric_trace_by_plan}
+use Rattle.symm_tasks.proofs.SquaresByPlan.{square_by_plan, rank_by_plan, transposed_rank_by_plan}
+use Rattle.symm_tasks.proofs.FactorsByPlan.{symmetric_first_by_plan, symmetric_second_by_plan}
 use Rattle.symm_tasks.proofs.AssignByPlan.{list_by_plan, portions_sound}
 
 -- the answer of a kind on trees is its plan's outcome
@@ -75,7 +77,7 @@ module _ (h : ℕ) (inputs : Inputs MatChunk) (there : all_present (presences_in
   abbrev portions : What → Portions MatChunk
   portions what = portions_shown what (entries_shown inputs.first)
 
-  at_height : (what : What) → IsTrue (is_served what) → (what ≡ SJoin → ⊥) → IsSoundFor arity_of matrices (kind_of what (suc h)) inputs (planned_answer (kind_of what (suc h)) inputs)
+  at_height : (what : What) → IsTrue (is_symmetric what) → (what ≡ SJoin → ⊥) → IsSoundFor arity_of matrices (kind_of what (suc h)) inputs (planned_answer (kind_of what (suc h)) inputs)
   at_height SJoin serves other trees shows d = absurd (other refl)
   at_height Assign serves other trees shows d = absurd (false≢true serves)
   at_height Add serves other trees shows d = absurd (false≢true serves)
@@ -86,11 +88,6 @@ module _ (h : ℕ) (inputs : Inputs MatChunk) (there : all_present (presences_in
   at_height Join serves other trees shows d = absurd (false≢true serves)
   at_height Trace serves other trees shows d = absurd (false≢true serves)
   at_height AddNum serves other trees shows d = absurd (false≢true serves)
-  at_height Square serves other trees shows d = absurd (false≢true serves)
-  at_height RankMul serves other trees shows d = absurd (false≢true serves)
-  at_height TRank serves other trees shows d = absurd (false≢true serves)
-  at_height SMul serves other trees shows d = absurd (false≢true serves)
-  at_height MulS serves other trees shows d = absurd (false≢true serves)
   at_height SAssign serves other trees shows d =
       one_executes SAssign refl (λ b side low c x0 x1 x2 x3 fits shows. assign_executes b h inputs c x0 x1 x2 x3 low fits shows) trees shows d
   at_height SAdd serves other trees shows d =
@@ -108,9 +105,34 @@ module _ (h : ℕ) (inputs : Inputs MatChunk) (there : all_present (presences_in
       (λ b side low c x0 x1 x2 x3 fits shows.
       by_outcome STrace h inputs (Root c x0 x1 x2 x3 ∷ []) (entries_shown inputs.first) shows refl (symmetric_trace_by_plan b h (portions STrace) c x0 x1 x2 x3 side low fits))
       trees shows d
+  at_height Square serves other trees shows d =
+      one_executes Square refl
+      (λ b side low c x0 x1 x2 x3 fits shows.
+      by_outcome Square h inputs (Root c x0 x1 x2 x3 ∷ []) (entries_shown inputs.first) shows refl (square_by_plan b h (portions Square) c x0 x1 x2 x3 side low fits))
+      trees shows d
+  at_height RankMul serves other trees shows d =
+      one_executes RankMul refl
+      (λ b side low c x0 x1 x2 x3 fits shows.
+      by_outcome RankMul h inputs (Root c x0 x1 x2 x3 ∷ []) (entries_shown inputs.first) shows refl (rank_by_plan b h (portions RankMul) c x0 x1 x2 x3 side low fits))
+      trees shows d
+  at_height TRank serves other trees shows d =
+      one_executes TRank refl
+      (λ b side low c x0 x1 x2 x3 fits shows.
+      by_outcome TRank h inputs (Root c x0 x1 x2 x3 ∷ []) (entries_shown inputs.first) shows refl (transposed_rank_by_plan b h (portions TRank) c x0 x1 x2 x3 side low fits))
+      trees shows d
+  at_height SMul serves other trees shows d =
+      two_execute SMul refl
+      (λ b side low c x0 x1 x2 x3 d y0 y1 y2 y3 fits shows.
+      by_outcome SMul h inputs (Root c x0 x1 x2 x3 ∷ Root d y0 y1 y2 y3 ∷ []) (entries_shown inputs.first) shows refl (symmetric_first_by_plan b h (portions SMul) c x0 x1 x2 x3 d y0 y1 y2 y3 side low fits))
+      trees shows d
+  at_height MulS serves other trees shows d =
+      two_execute MulS refl
+      (λ b side low c x0 x1 x2 x3 d y0 y1 y2 y3 fits shows.
+      by_outcome MulS h inputs (Root c x0 x1 x2 x3 ∷ Root d y0 y1 y2 y3 ∷ []) (entries_shown inputs.first) shows refl (symmetric_second_by_plan b h (portions MulS) c x0 x1 x2 x3 d y0 y1 y2 y3 side low fits))
+      trees shows d
 
 -- what a kind of height at least 1 answers where its inputs are there is sound
-pub plan_sound : (what : What) (height : ℕ) (inputs : Inputs MatChunk) → IsTrue (is_served what) → (what ≡ SJoin → ⊥) → 1 ≤ height
+pub plan_sound : (what : What) (height : ℕ) (inputs : Inputs MatChunk) → IsTrue (is_symmetric what) → (what ≡ SJoin → ⊥) → 1 ≤ height
     → all_present (presences_in inputs) ≡ true → IsSoundFor arity_of matrices (kind_of what height) inputs (planned_answer (kind_of what height) inputs)
 plan_sound what zero inputs serves other high there = absurd (omega arith)
 plan_sound what (suc h) inputs serves other high there = at_height h inputs there what serves other
@@ -165,7 +187,18 @@ module _ (h : ℕ) (inputs : Inputs MatChunk) (there : all_present (presences_in
   symmetric_two what b c x0 x1 x2 x3 y is shows =
       no_portions_shown what inputs.first (ap entries_shown (first-shown_two inputs (Root c x0 x1 x2 x3) y shows) ∙ no_symmetric_entries b h c x0 x1 x2 x3 is)
 
-  portions_at : (what : What) → IsTrue (is_served what) → (what ≡ SJoin → ⊥) → (trees : List (Tree MatChunk)) → Shows inputs trees → IsDefined (kind_of what (suc h)) trees
+  -- nor does a general one
+  general_one : (what : What) (b : ℕ) (c : MatChunk) (x0 x1 x2 x3 : Tree MatChunk) → IsCanonical b (suc h) (Root c x0 x1 x2 x3) → Shows inputs (Root c x0 x1 x2 x3 ∷ [])
+      → HasPortions what (entries_shown inputs.first)
+  general_one what b c x0 x1 x2 x3 is shows =
+      no_portions_shown what inputs.first (ap entries_shown (first-shown_one inputs (Root c x0 x1 x2 x3) shows) ∙ no_entries b h (Root c x0 x1 x2 x3) is)
+
+  general_two : (what : What) (b : ℕ) (c : MatChunk) (x0 x1 x2 x3 y : Tree MatChunk) → IsCanonical b (suc h) (Root c x0 x1 x2 x3) → Shows inputs (Root c x0 x1 x2 x3 ∷ y ∷ [])
+      → HasPortions what (entries_shown inputs.first)
+  general_two what b c x0 x1 x2 x3 y is shows =
+      no_portions_shown what inputs.first (ap entries_shown (first-shown_two inputs (Root c x0 x1 x2 x3) y shows) ∙ no_entries b h (Root c x0 x1 x2 x3) is)
+
+  portions_at : (what : What) → IsTrue (is_symmetric what) → (what ≡ SJoin → ⊥) → (trees : List (Tree MatChunk)) → Shows inputs trees → IsDefined (kind_of what (suc h)) trees
       → HasPortions what (entries_shown inputs.first)
   portions_at SJoin serves other trees shows d = absurd (other refl)
   portions_at Assign serves other trees shows d = absurd (false≢true serves)
@@ -177,11 +210,6 @@ module _ (h : ℕ) (inputs : Inputs MatChunk) (there : all_present (presences_in
   portions_at Join serves other trees shows d = absurd (false≢true serves)
   portions_at Trace serves other trees shows d = absurd (false≢true serves)
   portions_at AddNum serves other trees shows d = absurd (false≢true serves)
-  portions_at Square serves other trees shows d = absurd (false≢true serves)
-  portions_at RankMul serves other trees shows d = absurd (false≢true serves)
-  portions_at TRank serves other trees shows d = absurd (false≢true serves)
-  portions_at SMul serves other trees shows d = absurd (false≢true serves)
-  portions_at MulS serves other trees shows d = absurd (false≢true serves)
   portions_at SAssign serves other trees shows d =
       one_splits SAssign refl
       (λ b low c x0 x1 x2 x3 fits shows. subst (λ (input : View MatChunk). HasPortions SAssign (entries_shown input)) (sym (first-shown_one inputs (Root c x0 x1 x2 x3) shows)) (list_splits b h c x0 x1 x2 x3 low fits))
@@ -192,9 +220,19 @@ module _ (h : ℕ) (inputs : Inputs MatChunk) (there : all_present (presences_in
       one_splits Full refl (λ b low c x0 x1 x2 x3 fits shows. symmetric_one Full b c x0 x1 x2 x3 fits shows) trees shows d
   portions_at STrace serves other trees shows d =
       one_splits STrace refl (λ b low c x0 x1 x2 x3 fits shows. symmetric_one STrace b c x0 x1 x2 x3 fits.0 shows) trees shows d
+  portions_at Square serves other trees shows d =
+      one_splits Square refl (λ b low c x0 x1 x2 x3 fits shows. symmetric_one Square b c x0 x1 x2 x3 fits.0 shows) trees shows d
+  portions_at RankMul serves other trees shows d =
+      one_splits RankMul refl (λ b low c x0 x1 x2 x3 fits shows. general_one RankMul b c x0 x1 x2 x3 fits.0 shows) trees shows d
+  portions_at TRank serves other trees shows d =
+      one_splits TRank refl (λ b low c x0 x1 x2 x3 fits shows. general_one TRank b c x0 x1 x2 x3 fits.0 shows) trees shows d
+  portions_at SMul serves other trees shows d =
+      two_split SMul refl (λ b low c x0 x1 x2 x3 e y0 y1 y2 y3 fits shows. symmetric_two SMul b c x0 x1 x2 x3 (Root e y0 y1 y2 y3) fits.0 shows) trees shows d
+  portions_at MulS serves other trees shows d =
+      two_split MulS refl (λ b low c x0 x1 x2 x3 e y0 y1 y2 y3 fits shows. general_two MulS b c x0 x1 x2 x3 (Root e y0 y1 y2 y3) fits.0 shows) trees shows d
 
 -- entries that are shown to a kind of height at least 1 have sound portions
-pub have_portions : (what : What) (height : ℕ) (inputs : Inputs MatChunk) → IsTrue (is_served what) → (what ≡ SJoin → ⊥) → 1 ≤ height → all_present (presences_in inputs) ≡ true
+pub have_portions : (what : What) (height : ℕ) (inputs : Inputs MatChunk) → IsTrue (is_symmetric what) → (what ≡ SJoin → ⊥) → 1 ≤ height → all_present (presences_in inputs) ≡ true
     → (trees : List (Tree MatChunk)) → Shows inputs trees → IsDefined (kind_of what height) trees
     → HasPortions what (entries_shown inputs.first)
 have_portions what zero inputs serves other high there trees shows d = absurd (omega arith)

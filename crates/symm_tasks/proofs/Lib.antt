@@ -5,4 +5,7 @@ mod Joins
 mod Low
 mod ByPlan
 mod AssignByPlan
+mod ProductTerms
+mod SquaresByPlan
+mod FactorsByPlan
 mod Executed

@@ -28,7 +28,7 @@ use Rattle.quad_matrix.specs.Plans.{shapes_of, full_shapes, null_shape, inputs_o
 use Rattle.quad_matrix.proofs.ForOthers.{canonical_zero, peak-zeros, goal_any, symmetric_assign_nothing, symmetric_add_with_nothing, symmetric_add_nothing_with, symmetric_add_nothing, full_of_nothing, trace_of_nothing, square_of_nothing, rank_of_nothing, transposed_rank_of_nothing}
 use Rattle.matrix_tasks.specs.Answers.{null_place}
 use Rattle.matrix_tasks.proofs.ForOthers.{shapes_open}
-use Rattle.symm_tasks.specs.Answers.{is_served}
+use Rattle.symm_tasks.specs.Answers.{is_symmetric}
 use Rattle.symm_tasks.proofs.ShownTrees.{of_one, of_two}
 
 -- ---- Goals
@@ -106,7 +106,7 @@ null_sum b h (Root c x y z w) (Root d x1 y1 z1 w1) low fits null = absurd (false
 
 -- ---- All kinds
 
-null_at : (b : ℕ) (what : What) (h : ℕ) (trees : List (Tree MatChunk)) → IsTrue (is_served what) → (what ≡ SJoin → ⊥) → h ≤ 16 → FitsAt b what h trees
+null_at : (b : ℕ) (what : What) (h : ℕ) (trees : List (Tree MatChunk)) → IsTrue (is_symmetric what) → (what ≡ SJoin → ⊥) → h ≤ 16 → FitsAt b what h trees
     → all_present (map presence_of trees) ≡ false
     → IsSound arity_of matrices (kind_of what h) trees (given (null_place what (map presence_of trees)))
 null_at b SJoin h trees serves other low fits null = absurd (other refl)
@@ -141,7 +141,7 @@ null_at b MulS h trees serves other low fits null =
     null_two b MulS h refl (λ x y fits e. factor_missing b h x y fits.0.sized fits.1.sized e) (λ p q e. open_null MulS h (p ∷ q ∷ []) refl (le-leb h 16 low) e) trees fits null
 
 -- what a kind other than a join answers with a null input is sound
-pub null_sound : (what : What) (height : ℕ) (inputs : Inputs MatChunk) → IsTrue (is_served what) → (what ≡ SJoin → ⊥) → all_present (presences_in inputs) ≡ false
+pub null_sound : (what : What) (height : ℕ) (inputs : Inputs MatChunk) → IsTrue (is_symmetric what) → (what ≡ SJoin → ⊥) → all_present (presences_in inputs) ≡ false
     → (trees : List (Tree MatChunk)) → Shows inputs trees → IsDefined (kind_of what height) trees
     → IsSound arity_of matrices (kind_of what height) trees (given (null_place what (presences_in inputs)))
 null_sound what height inputs serves other null trees shows d =

@@ -23,27 +23,27 @@ use Rattle.matrix_tasks.specs.Answers.{leaf_outcome, peak_shown}
 
 -- ---- Kinds
 
--- whether a kind is one of symmetric matrices that is served so far
-abbrev pub is_served : What → Bool
-is_served Assign = false
-is_served Add = false
-is_served Mul = false
-is_served TMul = false
-is_served MulT = false
-is_served Transpose = false
-is_served Join = false
-is_served Trace = false
-is_served AddNum = false
-is_served SAssign = true
-is_served SAdd = true
-is_served Square = false
-is_served RankMul = false
-is_served TRank = false
-is_served SMul = false
-is_served MulS = false
-is_served Full = true
-is_served SJoin = true
-is_served STrace = true
+-- whether a kind is one of symmetric matrices
+abbrev pub is_symmetric : What → Bool
+is_symmetric Assign = false
+is_symmetric Add = false
+is_symmetric Mul = false
+is_symmetric TMul = false
+is_symmetric MulT = false
+is_symmetric Transpose = false
+is_symmetric Join = false
+is_symmetric Trace = false
+is_symmetric AddNum = false
+is_symmetric SAssign = true
+is_symmetric SAdd = true
+is_symmetric Square = true
+is_symmetric RankMul = true
+is_symmetric TRank = true
+is_symmetric SMul = true
+is_symmetric MulS = true
+is_symmetric Full = true
+is_symmetric SJoin = true
+is_symmetric STrace = true
 
 -- ---- Outcomes
 

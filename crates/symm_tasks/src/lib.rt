@@ -7,7 +7,7 @@ ghost use Rattle.task_types.specs.Shown.{presences_in};
 ghost use Rattle.task_types.specs.Sound.{HasGoal, IsSoundFor};
 ghost use Rattle.quad_matrix.specs.Chunks.{arity_of};
 ghost use Rattle.quad_matrix.specs.Matrices.{matrices};
-ghost use Rattle.symm_tasks.specs.Answers.{is_served};
+ghost use Rattle.symm_tasks.specs.Answers.{is_symmetric};
 
 mod leaves;
 mod nodes;
@@ -20,13 +20,13 @@ use std::alloc::Global;
 use task_plans::given;
 use task_types::{Inputs, Outcome};
 
-/// Whether a kind is one of symmetric matrices that `run_symmetric` serves so far.
-pub fn is_served(what: What) -> bool
-    ensures { result ≡ is_served what }
+/// Whether a kind is one of symmetric matrices, which `run_symmetric` serves.
+pub fn is_symmetric(what: What) -> bool
+    ensures { result ≡ is_symmetric what }
 {
     match what {
         What::SAssign | What::SAdd | What::Full | What::SJoin | What::STrace => true,
-        What::Square | What::RankMul | What::TRank | What::SMul | What::MulS => false,
+        What::Square | What::RankMul | What::TRank | What::SMul | What::MulS => true,
         What::Assign | What::Add | What::Mul | What::TMul | What::MulT => false,
         What::Transpose | What::Join | What::Trace | What::AddNum => false,
     }
@@ -39,7 +39,7 @@ pub fn run_symmetric(
     kind: MatKind,
     inputs: &Inputs<MatChunk>,
 ) -> Result<Outcome<MatChunk, MatKind>, Memory>
-    requires serves { IsTrue (is_served kind.what) }
+    requires serves { IsTrue (is_symmetric kind.what) }
     requires defined { HasGoal matrices kind inputs.now }
     ensures { IfOk result (IsSoundFor arity_of matrices kind inputs.now) }
 {
