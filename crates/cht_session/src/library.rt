@@ -4,9 +4,10 @@ ghost use Rattle.quad_matrix.specs.Chunks.{arity_of};
 ghost use Rattle.quad_matrix.specs.Matrices.{matrices};
 
 use cht_ids::Memory;
-use matrix_tasks::{is_general, run_general};
+use matrix_tasks::run_general;
 use quad_matrix::{MatChunk, MatKind};
 use std::alloc::Global;
+use symm_tasks::{is_symmetric, run_symmetric};
 use task_types::{Inputs, Library, Outcome};
 
 /// The library of matrices.
@@ -42,7 +43,7 @@ impl Library for MatLib {
     }
 }
 
-// Executes one task. No statement asks for a kind of symmetric matrices yet.
+// Executes one task, on general matrices and numbers or on symmetric matrices.
 fn served(
     alloc: Global,
     kind: MatKind,
@@ -51,8 +52,10 @@ fn served(
     requires { HasGoal matrices kind inputs.now }
     ensures { IfOk result (IsSoundFor arity_of matrices kind inputs.now) }
 {
-    if !is_general(kind.what) {
-        return Err(Memory);
+    let symmetric = is_symmetric(kind.what);
+    if symmetric {
+        run_symmetric(alloc, kind, inputs)
+    } else {
+        run_general(alloc, kind, inputs)
     }
-    run_general(alloc, kind, inputs)
 }
