@@ -1,7 +1,3 @@
-pub mod BesideRows
-pub mod CellRows
-pub mod SquareJoins
-pub mod TreePieces
 pub mod ListedEntries
 pub mod Identifiers
 pub mod Bindings

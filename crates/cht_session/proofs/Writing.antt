@@ -31,7 +31,7 @@ use Rattle.cht_session.specs.declared.held.Held.{Held}
 use Rattle.cht_session.specs.declared.stop.Stop.{Stop}
 use Rattle.cht_session.specs.declared.stop.Stop.TheVariants as stops
 use Rattle.cht_session.specs.Numbers.{root_peak}
-use Rattle.cht_session.specs.BlockTrees.{IsBlockTree, AreEntriesOf}
+use Rattle.tree_entries.specs.BlockTrees.{IsBlockTree, AreEntriesOf}
 use Rattle.cht_session.specs.Bindings.{found_in, shape_at}
 use Rattle.cht_session.specs.Program.{Bound, known_in, deletes, IsNullIf, AreOfTrace}
 use Rattle.cht_session.specs.Held.{IsShown}

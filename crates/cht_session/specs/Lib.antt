@@ -1,5 +1,3 @@
-pub mod BlockTrees
-pub mod SquareCells
 pub mod Program
 pub mod Works
 pub mod Listed

@@ -15,7 +15,6 @@ ghost use Rattle.cht_session.specs.Running.{IsReadyAct, IsReady, ActsOn, IsGoing
 
 use crate::ended::Ended;
 use crate::held::Held;
-use crate::library::MatLib;
 use crate::operation::Operation;
 use crate::statements::{combine, copy, delete, market};
 use crate::stop::Stop;
@@ -24,6 +23,7 @@ use cht_engine::Engine;
 use cht_ids::Ref;
 use cht_io::Sink;
 use cht_script::{Checked, Fault, Names, Statement, Verb};
+use matrix_library::MatLib;
 use std::alloc::Global;
 
 /// Runs the statements of a script, in order, up to the first that is refused. Whatever ends the run, the caller of the engine then holds

@@ -10,13 +10,13 @@ ghost use Rattle.cht_session.specs.Held.{side_in, IsWell};
 ghost use Rattle.cht_session.specs.Running.{IsPair, Binds, Deletes, IsGoing};
 
 use crate::held::Held;
-use crate::library::MatLib;
 use crate::listed::list_of;
 use crate::operation::Operation;
 use crate::stop::Stop;
 use crate::trees::{assigned_any, combined};
 use cht_engine::Engine;
 use cht_script::{Name, Names};
+use matrix_library::MatLib;
 use mm_text::Market;
 use std::alloc::Global;
 

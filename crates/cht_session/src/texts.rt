@@ -13,13 +13,13 @@ ghost use Rattle.cht_session.specs.Running.{ActsOn, IsGoing, IsWritten};
 
 use crate::entries::entries_of;
 use crate::held::Held;
-use crate::library::MatLib;
 use crate::stop::Stop;
 use crate::trees::{peak_at, traced};
 use cht_engine::Engine;
 use cht_ids::{fits_product, write_number};
 use cht_io::{Sink, write_all};
 use cht_script::Names;
+use matrix_library::MatLib;
 use mm_text::{Cell, Form, write_market};
 use std::alloc::Global;
 

@@ -9,10 +9,10 @@ ghost use Rattle.quad_matrix.specs.Goals.{kind_of, IsDefined};
 ghost use Rattle.cht_session.specs.Given.{IsReadyPair, Combines, Assigns, IsAssignable, AssignsAny, Traces};
 
 use crate::held::Binding;
-use crate::library::MatLib;
 use crate::operation::Operation;
 use cht_engine::Engine;
 use cht_ids::{Memory, Ref};
+use matrix_library::MatLib;
 use quad_matrix::{Entries, MatChunk, MatKind, What};
 
 /// The greatest absolute value that the root of what a reference names tells; 0 of null.

@@ -1,0 +1,4 @@
+pub mod BesideRows
+pub mod CellRows
+pub mod SquareJoins
+pub mod TreePieces

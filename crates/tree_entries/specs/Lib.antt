@@ -1,0 +1,2 @@
+pub mod SquareCells
+pub mod BlockTrees

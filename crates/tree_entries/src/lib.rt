@@ -1,0 +1,15 @@
+//! The numbers other than 0 of a matrix whose tree the caller of an engine holds: as a list, how many they are, and their text.
+#![tactic(auto)]
+
+mod beside;
+mod corner;
+mod count;
+mod entries;
+mod leaf_cells;
+mod print;
+mod unprinted;
+
+pub use count::count_entries;
+pub use entries::entries_of;
+pub use print::print_entries;
+pub use unprinted::Unprinted;
