@@ -1,5 +1,6 @@
 pub mod CellsMade
 pub mod Passing
+pub mod OnItsWay
 pub mod Cutting
 pub mod Cursors
 pub mod LineRules

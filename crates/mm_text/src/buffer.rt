@@ -13,27 +13,27 @@ pub(crate) const LINE: usize = 128;
 
 /// Text on its way to a sink, held until there are several KiB of it.
 #[derive(Drop)]
-pub(crate) struct Pieces {
+pub struct HeldText {
     bytes: [u8; SIZE],
     len: usize,
 }
 
-impl Model for Pieces {
+impl Model for HeldText {
     ghost use Rattle.std.specs.Prelude.{List, ℕ, take, ◌≤◌};
 
     ghost Value = { List ℕ };
 
-    ghost view = { λ pieces. take pieces.len pieces.bytes };
+    ghost view = { λ text. take text.len text.bytes };
 
-    ghost invariant = { λ pieces. pieces.len ≤ 8192 };
+    ghost invariant = { λ text. text.len ≤ 8192 };
 }
 
-impl Pieces {
+impl HeldText {
     /// No text.
-    pub(crate) fn new() -> Pieces
+    pub(crate) fn new() -> HeldText
         ensures { result ≡ [] }
     {
-        Pieces {
+        HeldText {
             bytes: [0; SIZE],
             len: 0,
         }
@@ -68,7 +68,7 @@ impl Pieces {
     }
 
     /// Hands the sink all that is held. After `Failed` the sink took a front of it, and all of it is held still.
-    pub(crate) fn flush<K: Sink>(&mut self, sink: &mut K) -> Result<(), Failed>
+    pub fn flush<K: Sink>(&mut self, sink: &mut K) -> Result<(), Failed>
         ensures empty { OnOk result (self.new ≡ []) }
         ensures whole { OnOk result (Adds (K.took sink.old) self.old (K.took sink.new)) }
         ensures kept { OnErr result (self.new ≡ self.old) }

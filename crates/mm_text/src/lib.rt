@@ -17,7 +17,8 @@ mod reading;
 mod sizes;
 mod writing;
 
+pub use buffer::HeldText;
 pub use lines::{is_text, next_line, next_word};
 pub use market::{Cell, Entry, Form, Market, MarketFault, MarketRead, MarketRefused};
 pub use reading::read_market;
-pub use writing::write_market;
+pub use writing::{write_cells, write_market, write_opening};

@@ -1,21 +1,8 @@
-use Rattle.std.proofs.Common.{arith}
-use Rattle.std.proofs.lemmas.Result.{err_from_is_err_and, on_err_weaker}
-use Rattle.mm_text.proofs.Passing.{IsCut_more, IsCut_failed}
+use Rattle.std.proofs.lemmas.Result.{on_err_weaker}
+use Rattle.mm_text.proofs.OnItsWay.{way_fails}
 use Rattle.mm_text.proofs.writing.write_market.Goals as goal
-
-pub returns-in_err-make_room-clause-front : goal.returns-in_err-make_room-clause-front
-returns-in_err-make_room-clause-front g c =
-    let p = err_from_is_err_and c.from_residual.result c.from_residual.ensures.1 in
-    rw p.1 (IsCut_failed _ _ _ _ _ _ _ c.loop-cell.cell-index _ c.loop-cell.invariant.cut c.in_err-make_room.ensures.front)
-
-pub loop-cell-preserved : goal.loop-cell-preserved
-loop-cell-preserved g c =
-    let passed = c.in_ok-make_room.ensures.whole in
-    record {
-      later = omega (arith, c.loop-cell.invariant.later, c.in_ok-make_room.ensures.later);
-      cut = IsCut_more _ _ _ _ _ _ _ _ _ _ passed.0 _ _ (omega arith) c.loop-cell.invariant.cut passed.1 passed.2 c.push_cell.ensures;
-    }
 
 pub returns-clause-front : goal.returns-clause-front
 returns-clause-front g c =
-    on_err_weaker c.flush.result (IsCut_failed _ _ _ _ _ _ _ c.loop-cell.cell-index _ c.loop-cell.invariant.cut) c.flush.ensures.front
+    rw c.write_opening-text.ensures at
+    (on_err_weaker c.flush.result (way_fails _ _ _ _ _ c.in_ok-write_cells.ensures.whole) c.flush.ensures.front)
