@@ -11,6 +11,7 @@ mod Readings
 mod Refilling
 mod Reordering
 mod Revising
+mod Runners
 mod Runs
 mod Sweeps
 mod Tallies

@@ -82,6 +82,18 @@ run_running u is = ap (λ s. one_if (nat_eq u.caller u.caller && is_running s)) 
 pub status_with : {K : Type 0} (u : Unfinished Ref K) (runner asked : Option ℕ) (r : Bool) → list_any is_awaiting u.inputs ≡ false → is_some runner ≡ r → status_of (record u { runner = runner; asked = asked }) ≡ (if r then Running else Ready)
 status_with u runner asked r none is = ap (λ b. if b then Waiting else (if is_some runner then Running else Ready)) none ∙ ap (λ b. if b then Running else Ready) is
 
+some_value : {X : Type 0} (o : Option X) → IsSome o → (x : X) × (o ≡ Some x)
+some_value None there = absurd (cc)
+some_value (Some x) there = (x, refl)
+
+-- the entry of a task that is there
+pub some_entry : {K : Type 0} (parts : Parts K) (q : ℕ) → IsSome (task_at (graph_of parts) q) → (e : Entry K) × (entries_at parts.entries q ≡ Some e)
+some_entry parts q there = some_value (entries_at parts.entries q) (entry_of parts q there)
+
+-- the entry of a task with a status
+pub some_of_status : {K : Type 0} (parts : Parts K) (q : ℕ) (s : TaskStatus) → status (graph_of parts) q ≡ s → (s ≡ Unknown → ⊥) → (e : Entry K) × (entries_at parts.entries q ≡ Some e)
+some_of_status parts q s is known = some_value (entries_at parts.entries q) (entry_of_status parts q s is known)
+
 -- a task as it is, with one field changed
 pub as_changed : {K : Type 0} (graph : Graph Ref K) (t : ℕ) (u : Unfinished Ref K) (change : Unfinished Ref K → Unfinished Ref K) → task_at graph t ≡ Some u → record graph { tasks = map.insert graph.tasks t (change u) } ≡ with_task graph t change
 as_changed graph t u change is = ap (λ o. record graph { tasks = put_at graph.tasks t (option_map change o) }) (sym is)
@@ -168,11 +180,3 @@ ask_revised parts t e row asked whole is at free = record {
   free = λ n is. inl (free n is);
   counted = λ other there. let one = ap (λ (r : Caller). r.running) (same_some row other (sym at ∙ there)) in omega arith;
 }
-
-some_value : {X : Type 0} (o : Option X) → IsSome o → (x : X) × (o ≡ Some x)
-some_value None there = absurd (cc)
-some_value (Some x) there = (x, refl)
-
--- the entry of a task that is there
-pub some_entry : {K : Type 0} (parts : Parts K) (q : ℕ) → IsSome (task_at (graph_of parts) q) → (e : Entry K) × (entries_at parts.entries q ≡ Some e)
-some_entry parts q there = some_value (entries_at parts.entries q) (entry_of parts q there)

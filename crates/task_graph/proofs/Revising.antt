@@ -12,7 +12,7 @@ use Rattle.task_links.specs.declared.entries.Entry.{Entry}
 use Rattle.task_links.specs.declared.entries.Spot.{Spot}
 use Rattle.task_graph.specs.declared.parts.Parts.{Parts}
 use Rattle.task_links.specs.Weave.{Head, IsWoven, link_of, link_at, head_at, head_of}
-use Rattle.task_links.specs.Inside.{put_in, with_run_at, shown_entry, shown_at, entries_at, place_in, station_at, station_of}
+use Rattle.task_links.specs.Inside.{put_in, with_runner_at, with_asked_at, shown_entry, shown_at, entries_at, place_in, station_at, station_of}
 use Rattle.task_links.specs.Callers.{caller_at, bounds_at, bounds_of, with_running_at}
 use Rattle.task_links.specs.Order.{IsOrdered}
 use Rattle.task_graph.specs.Graphs.{tasks_of, graph_of, stopped_from, IsWhole, IsRevised, with_revised, run_for}
@@ -20,26 +20,64 @@ use Rattle.task_links.proofs.Changes.{reheaded-woven}
 use Rattle.task_graph.proofs.Counting.{count_changed, passes}
 use Rattle.task_graph.proofs.Runs.{task_is, task_there}
 
-unchanged_run : {K : Type 0} (q task : ℕ) (runner asked : Option ℕ) (o : Option (Entry K)) → nat_eq q task ≡ false → option_map (with_run_at q task runner asked) o ≡ o
-unchanged_run q task runner asked None test = refl
-unchanged_run q task runner asked (Some entry) test = ap (λ b. Some (record entry { runner = cond b runner entry.runner; asked = cond b asked entry.asked })) test
+unchanged_runner : {K : Type 0} (q task : ℕ) (runner : Option ℕ) (o : Option (Entry K)) → nat_eq q task ≡ false → option_map (with_runner_at q task runner) o ≡ o
+unchanged_runner q task runner None test = refl
+unchanged_runner q task runner (Some entry) test = ap (λ b. Some (record entry { runner = cond b runner entry.runner })) test
 
--- a task with another worker and another asked output, as one put in
-pub run_put : {K : Type 0} (old new : ℕ → Option (Entry K)) (task : ℕ) (runner asked : Option ℕ) (entry : Entry K) → old task ≡ Some entry → ((q : ℕ) → new q ≡ option_map (with_run_at q task runner asked) (old q))
-    → (q : ℕ) → new q ≡ put_in task (record entry { runner = runner; asked = asked }) old q
-run_put old new task runner asked entry is writes q =
+-- a task with another worker, as one put in
+pub runner_put : {K : Type 0} (old new : ℕ → Option (Entry K)) (task : ℕ) (runner : Option ℕ) (entry : Entry K) → old task ≡ Some entry → ((q : ℕ) → new q ≡ option_map (with_runner_at q task runner) (old q))
+    → (q : ℕ) → new q ≡ put_in task (record entry { runner = runner }) old q
+runner_put old new task runner entry is writes q =
     elim (same_or_not q task) [
       | inl same ↦
           let test : nat_eq q task ≡ true = ap (λ t. nat_eq t task) same ∙ test_same task in
           writes q
-          ∙ ap (option_map (with_run_at q task runner asked)) (ap old same ∙ is)
-          ∙ ap (λ b. Some (record entry { runner = cond b runner entry.runner; asked = cond b asked entry.asked })) test
-          ∙ ap (λ b. cond b (Some (record entry { runner = runner; asked = asked })) (old q)) (sym test)
+          ∙ ap (option_map (with_runner_at q task runner)) (ap old same ∙ is)
+          ∙ ap (λ b. Some (record entry { runner = cond b runner entry.runner })) test
+          ∙ ap (λ b. cond b (Some (record entry { runner = runner })) (old q)) (sym test)
       | inr apart ↦
           let test : nat_eq q task ≡ false = test_apart q task apart in
           writes q
-          ∙ unchanged_run q task runner asked (old q) test
-          ∙ ap (λ b. cond b (Some (record entry { runner = runner; asked = asked })) (old q)) (sym test)
+          ∙ unchanged_runner q task runner (old q) test
+          ∙ ap (λ b. cond b (Some (record entry { runner = runner })) (old q)) (sym test)
+    ]
+
+unchanged_asked : {K : Type 0} (q task : ℕ) (asked : Option ℕ) (o : Option (Entry K)) → nat_eq q task ≡ false → option_map (with_asked_at q task asked) o ≡ o
+unchanged_asked q task asked None test = refl
+unchanged_asked q task asked (Some entry) test = ap (λ b. Some (record entry { asked = cond b asked entry.asked })) test
+
+-- a task with another asked output, as one put in
+pub asked_put : {K : Type 0} (old new : ℕ → Option (Entry K)) (task : ℕ) (asked : Option ℕ) (entry : Entry K) → old task ≡ Some entry → ((q : ℕ) → new q ≡ option_map (with_asked_at q task asked) (old q))
+    → (q : ℕ) → new q ≡ put_in task (record entry { asked = asked }) old q
+asked_put old new task asked entry is writes q =
+    elim (same_or_not q task) [
+      | inl same ↦
+          let test : nat_eq q task ≡ true = ap (λ t. nat_eq t task) same ∙ test_same task in
+          writes q
+          ∙ ap (option_map (with_asked_at q task asked)) (ap old same ∙ is)
+          ∙ ap (λ b. Some (record entry { asked = cond b asked entry.asked })) test
+          ∙ ap (λ b. cond b (Some (record entry { asked = asked })) (old q)) (sym test)
+      | inr apart ↦
+          let test : nat_eq q task ≡ false = test_apart q task apart in
+          writes q
+          ∙ unchanged_asked q task asked (old q) test
+          ∙ ap (λ b. cond b (Some (record entry { asked = asked })) (old q)) (sym test)
+    ]
+
+-- rows that stay, as rows with as many Running tasks
+same_count : (q caller : ℕ) (row : Caller) (o : Option Caller) → nat_eq q caller ≡ false → o ≡ option_map (with_running_at q caller row.running) o
+same_count q caller row None test = refl
+same_count q caller row (Some other) test = ap (λ b. Some (record other { running = cond b row.running other.running })) (sym test)
+
+pub same_rows : (callers : ℕ → Option Caller) (caller : ℕ) (row : Caller) → callers caller ≡ Some row → (q : ℕ) → callers q ≡ option_map (with_running_at q caller row.running) (callers q)
+same_rows callers caller row is q =
+    elim (same_or_not q caller) [
+      | inl same ↦
+          let there : callers q ≡ Some row = ap callers same ∙ is in
+          there
+          ∙ ap (λ b. Some (record row { running = cond b row.running row.running })) (sym (ap (λ t. nat_eq t caller) same ∙ test_same caller))
+          ∙ sym (ap (option_map (with_running_at q caller row.running)) there)
+      | inr apart ↦ same_count q caller row (callers q) (test_apart q caller apart)
     ]
 
 -- the stopped callers, where no flag changed

@@ -81,6 +81,10 @@ module _ {K : Type 0} (parts : Parts K) where
       let e = map_behind shown_entry (entries_at parts.entries q) runs.unfinished (sym (task_is q) ∙ runs.there) in
       (e.0, e.1, ap status_of e.2 ∙ ready_of (graph_of parts) q runs)
 
+  -- the row of a task's caller
+  pub row_there : IsWhole parts → (q : ℕ) (entry : Entry K) → entries_at parts.entries q ≡ Some entry → (row : Caller) × (caller_at parts.callers entry.caller ≡ Some row)
+  row_there whole q entry is = let k = whole.ordered.known q (station_of entry) (ap (option_map station_of) is) in bound k.0 (caller_at parts.callers entry.caller) k.1
+
   -- the caller of a task is below 64
   pub caller_low : IsWhole parts → (q : ℕ) (entry : Entry K) → entries_at parts.entries q ≡ Some entry → entry.caller < 64
   caller_low whole q entry is =

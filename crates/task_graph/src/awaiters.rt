@@ -1,12 +1,13 @@
 // How many await a task.
-ghost use Rattle.std.specs.Prelude.{◌≡◌, ◌≤◌, ◌^◌, None, IsSome, IfSome, IfNone, length};
-ghost use Rattle.task_states.specs.States.{task_at};
+ghost use Rattle.std.specs.Prelude.{◌≡◌, ◌≤◌, ◌^◌, Some, None, IfSome, IfNone, length};
+ghost use Rattle.task_links.specs.Inside.{entries_at};
+ghost use Rattle.task_links.specs.Kept.{opened};
 ghost use Rattle.task_states.specs.Listing.{awaiters};
 ghost use Rattle.task_graph.specs.Graphs.{graph_of, IsWhole};
 ghost use Rattle.task_graph.specs.Counted.{IsCounted};
 
 use crate::parts::Parts;
-use task_links::Spot;
+use task_links::{Kept, Spot};
 
 impl<K: Copy> Parts<K> {
     // How many inputs await a task, from the first on; `None` where more await it than 32 bits count.
@@ -29,17 +30,18 @@ impl<K: Copy> Parts<K> {
         Some(count)
     }
 
-    /// How many await a task; `None` exactly where more await it than 32 bits count.
-    pub fn awaiters(&self, task: u128) -> Option<u32>
+    // How many await a task of which this is kept; `None` exactly where more await it than 32 bits count.
+    fn awaiters_of(&self, task: u128, kept: &Kept<K>) -> Option<u32>
         requires whole { IsWhole self.now }
-        requires there { IsSome (task_at (graph_of self.now) task) }
+        requires there { entries_at self.now.entries task ≡ Some (opened kept.now) }
         ensures some { IfSome result (λ n. n ≡ length (awaiters (graph_of self.now) task)) }
         ensures none { IfNone result (2 ^ 32 ≤ length (awaiters (graph_of self.now) task)) }
     {
-        let entry = self.entries.get(task);
-        match self.inputs_awaiting(task, entry.first) {
+        let first = kept.first();
+        let asked = kept.asked();
+        match self.inputs_awaiting(task, first) {
             None => None,
-            Some(inputs) => match entry.asked {
+            Some(inputs) => match asked {
                 None => Some(inputs),
                 Some(_) => {
                     if inputs == u32::MAX {
@@ -48,6 +50,18 @@ impl<K: Copy> Parts<K> {
                     Some(inputs + 1)
                 }
             },
+        }
+    }
+
+    /// How many await a task; `None` exactly where more await it than 32 bits count.
+    pub fn awaiters(&self, task: u128) -> Option<u32>
+        requires whole { IsWhole self.now }
+        ensures some { IfSome result (λ n. n ≡ length (awaiters (graph_of self.now) task)) }
+        ensures none { IfNone result (2 ^ 32 ≤ length (awaiters (graph_of self.now) task)) }
+    {
+        match self.entries.find(task) {
+            None => Some(0),
+            Some(kept) => self.awaiters_of(task, kept),
         }
     }
 }

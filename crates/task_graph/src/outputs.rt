@@ -1,6 +1,7 @@
 // Who awaits a task, and what becomes of it when the task's output comes or is handed on.
 ghost use Rattle.std.specs.Prelude.{◌≡◌, ◌<◌, ℕ, Some, None, IsSome, ◌⊎◌, set, Option};
 ghost use Rattle.task_links.specs.Inside.{entries_at, IsSameSize, place_at};
+ghost use Rattle.task_links.specs.Kept.{opened};
 ghost use Rattle.task_states.specs.States.{Known as KnownInput, Awaits as AwaitsTask, task_at};
 ghost use Rattle.task_states.specs.Steps.{with_task, delivered, inputs_redirected, forwarded};
 ghost use Rattle.task_links.specs.Weave.{head_at, link_at, IsFirst, IsUntied, IsTied, IsAtHome, IsUnused, IsUnasked, IsFirstIfInput, Head as AnyHead};
@@ -13,23 +14,24 @@ ghost use Rattle.task_graph.specs.Graphs.{graph_of, IsWhole};
 
 use crate::parts::Parts;
 use cht_ids::Ref;
-use task_links::{Link, Spot};
+use task_links::{Kept, Link, Spot};
 use task_states::Awaiter;
 
 impl<K: Copy> Parts<K> {
-    /// The awaiter of a task with the least number; `None` where nobody awaits it.
-    pub fn awaiter(&self, task: u128) -> Option<Awaiter>
+    // The awaiter with the least number of a task of which this is kept; `None` where nobody awaits it.
+    fn awaiter_of(&self, task: u128, kept: &Kept<K>) -> Option<Awaiter>
         requires whole { IsWhole self.now }
-        requires there { IsSome (task_at (graph_of self.now) task) }
+        requires there { entries_at self.now.entries task ≡ Some (opened kept.now) }
         ensures least { IsAwaiterFound (graph_of self.now) task result }
         ensures first { IsFirstIfInput (head_at (entries_at self.now.entries)) (link_at (entries_at self.now.entries)) result }
     {
-        let entry = self.entries.get(task);
-        match entry.first {
-            None => match entry.asked {
+        let first = kept.first();
+        let asked = kept.asked();
+        match first {
+            None => match asked {
                 None => None,
                 Some(number) => Some(Awaiter::Asked {
-                    caller: entry.caller,
+                    caller: kept.caller,
                     number,
                 }),
             },
@@ -40,12 +42,12 @@ impl<K: Copy> Parts<K> {
                     place: spot.place,
                     number: link.number,
                 };
-                match entry.asked {
+                match asked {
                     None => Some(input),
                     Some(number) => {
                         if number < link.number {
                             Some(Awaiter::Asked {
-                                caller: entry.caller,
+                                caller: kept.caller,
                                 number,
                             })
                         } else {
@@ -54,6 +56,18 @@ impl<K: Copy> Parts<K> {
                     }
                 }
             }
+        }
+    }
+
+    /// The awaiter of a task with the least number; `None` where nobody awaits it.
+    pub fn awaiter(&self, task: u128) -> Option<Awaiter>
+        requires whole { IsWhole self.now }
+        ensures least { IsAwaiterFound (graph_of self.now) task result }
+        ensures first { IsFirstIfInput (head_at (entries_at self.now.entries)) (link_at (entries_at self.now.entries)) result }
+    {
+        match self.entries.find(task) {
+            None => None,
+            Some(kept) => self.awaiter_of(task, kept),
         }
     }
 
@@ -123,8 +137,8 @@ impl<K: Copy> Parts<K> {
         requires { IsSome (entries_at self.now.entries task) }
         ensures { (head : AnyHead) → head_at (entries_at self.now.entries) task ≡ Some head → result ≡ head.first }
     {
-        let entry = self.entries.get(task);
-        entry.first
+        let kept = self.entries.look(task);
+        kept.first()
     }
 
     // The first input that awaits one task awaits another of the same caller.
@@ -163,9 +177,9 @@ impl<K: Copy> Parts<K> {
         ensures graph { graph_of self.new ≡ forwarded (graph_of self.old) task to }
         ensures size { IsSameSize self.old.entries self.new.entries }
     {
-        let entry = self.entries.get(task);
+        let asked = self.entries.look(task).asked();
         self.move_all(task, to);
-        if let Some(number) = entry.asked {
+        if let Some(number) = asked {
             self.ask(to, number);
             self.unask(task);
         }

@@ -37,8 +37,8 @@ impl<K: Copy> Parts<K> {
             if other < task {
                 return at;
             }
-            let entry = self.entries.get(other);
-            at = entry.before;
+            let kept = self.entries.look(other);
+            at = kept.leader();
         }
         None
     }
@@ -55,8 +55,8 @@ impl<K: Copy> Parts<K> {
                 row.first
             }
             Some(task) => {
-                let entry = self.entries.get(task);
-                entry.after
+                let kept = self.entries.look(task);
+                kept.follower()
             }
         }
     }
@@ -166,10 +166,9 @@ impl<K: Copy> Parts<K> {
         ensures len { hash_map_len self.new.entries.tasks + 1 ≡ hash_map_len self.old.entries.tasks }
         ensures room { room_of self.old.entries ≤ room_of self.new.entries }
     {
-        let entry = self.entries.get(task);
-        if entry.runner.is_some() {
-            let row = self.callers.get(entry.caller);
-            self.revise(task, None, entry.asked, row.running - 1);
+        let runner = self.entries.look(task).runner;
+        if runner.is_some() {
+            self.give_back(task);
             self.take_idle(task);
         } else {
             self.take_idle(task);

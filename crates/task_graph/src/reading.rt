@@ -3,13 +3,14 @@ ghost use Rattle.std.specs.Prelude.{◌≡◌, ◌<◌, ◌≤◌, ◌↔◌, �
 ghost use Rattle.task_states.specs.Awaiters.{IsLeastOf, IsLater, IsWanted};
 ghost use Rattle.task_states.specs.States.{caller_of};
 ghost use Rattle.task_links.specs.Inside.{inputs_of, shown_place};
+ghost use Rattle.task_links.specs.Kept.{opened};
 ghost use Rattle.task_graph.specs.Contents.{input_of};
 ghost use Rattle.task_graph.specs.Graphs.{graph_of, IsWhole};
 ghost use Rattle.task_graph.specs.Reading.{IsCeiling, is_wanted};
 ghost use Rattle.std.specs.List.{list_any};
 
 use crate::parts::Parts;
-use task_links::{Caller, Entry, Place};
+use task_links::{Caller, Kept, Place};
 use task_states::Slot;
 
 // An input as callers give it.
@@ -23,12 +24,12 @@ fn slot(place: &Place) -> Slot
 }
 
 /// The input of a task at a place, counted from 0, if there is one.
-pub(crate) fn input<K: Copy>(entry: &Entry<K>, place: u32) -> Option<Slot>
-    requires { entry.now.count ≤ 4 }
-    ensures input { option_map input_of result ≡ option_map shown_place (slice_get (inputs_of entry.now) place) }
+pub(crate) fn input<K: Copy>(kept: &Kept<K>, place: u32) -> Option<Slot>
+    requires { kept.now.count ≤ 4 }
+    ensures input { option_map input_of result ≡ option_map shown_place (slice_get (inputs_of (opened kept.now)) place) }
     ensures few { IfSome result (λ _. place < 4) }
 {
-    match entry.input(place) {
+    match kept.input(place) {
         None => None,
         Some(found) => Some(slot(&found)),
     }
@@ -61,8 +62,8 @@ impl<K: Copy> Parts<K> {
             if task > after {
                 return at;
             }
-            let entry = self.entries.get(task);
-            at = entry.after;
+            let kept = self.entries.look(task);
+            at = kept.follower();
         }
         None
     }

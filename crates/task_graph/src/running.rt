@@ -2,14 +2,14 @@
 ghost use Rattle.std.specs.Prelude.{◌≡◌, ◌<◌, ◌+◌, ℕ, Some, None, IsSome, IsTrue, ◌↔◌, ◌^◌, length, Option};
 ghost use Rattle.std.specs.Option.{option_map};
 ghost use Rattle.std.specs.HashMap.{hash_map_len};
-ghost use Rattle.task_links.specs.Inside.{entries_at, put_in, IsSameSize, shown_entry};
+ghost use Rattle.task_links.specs.Inside.{entries_at, put_in, IsSameSize};
 ghost use Rattle.task_links.specs.Callers.{caller_at, with_running_at};
 ghost use Rattle.task_links.specs.Weave.{link_at, IsUnused};
 ghost use Rattle.task_states.specs.declared.states.TaskStatus.TheVariants.{Ready, Running};
 ghost use Rattle.task_states.specs.States.{task_at, status};
 ghost use Rattle.task_states.specs.Steps.{started, given_back, with_asked, without_asked, with_stopped};
 ghost use Rattle.task_links.specs.declared.entries.Entry.{Entry as AnyEntry};
-ghost use Rattle.task_graph.specs.Graphs.{graph_of, IsWhole, IsRevised, with_revised};
+ghost use Rattle.task_graph.specs.Graphs.{graph_of, IsWhole};
 ghost use Rattle.task_states.specs.Awaiters.{IsRunnable};
 
 use crate::parts::Parts;
@@ -58,28 +58,6 @@ impl<K: Copy> Parts<K> {
         self.callers.set(caller, Caller { running, ..row });
     }
 
-    // Writes the worker and the asked output of a task, and how many tasks of its caller are Running then.
-    pub(crate) fn revise(
-        &mut self,
-        task: u128,
-        runner: Option<u32>,
-        asked: Option<u128>,
-        running: u32,
-    )
-        requires whole { IsWhole self.old }
-        requires there { IsSome (entries_at self.old.entries task) }
-        requires revised { (entry : AnyEntry K) → entries_at self.old.entries task ≡ Some entry → IsRevised self.old task entry runner asked running }
-        ensures whole { IsWhole self.new }
-        ensures at { (entry : AnyEntry K) → entries_at self.old.entries task ≡ Some entry
-            → (q : ℕ) → entries_at self.new.entries q ≡ put_in task (record entry { runner = runner; asked = asked }) (entries_at self.old.entries) q }
-        ensures graph { (entry : AnyEntry K) → entries_at self.old.entries task ≡ Some entry → graph_of self.new ≡ with_revised (graph_of self.old) task (shown_entry entry) runner asked }
-        ensures size { IsSameSize self.old.entries self.new.entries }
-    {
-        let entry = self.entries.get(task);
-        self.entries.set_run(task, runner, asked);
-        self.count(entry.caller, running);
-    }
-
     /// A worker runs a Ready task.
     pub fn start(&mut self, task: u128, worker: u32)
         requires whole { IsWhole self.old }
@@ -90,9 +68,9 @@ impl<K: Copy> Parts<K> {
         ensures size { IsSameSize self.old.entries self.new.entries }
     {
         let _few = self.entries.tasks.len();
-        let entry = self.entries.get(task);
-        let row = self.callers.get(entry.caller);
-        self.revise(task, Some(worker), entry.asked, row.running + 1);
+        let caller = self.entries.set_runner(task, Some(worker));
+        let row = self.callers.get(caller);
+        self.count(caller, row.running + 1);
     }
 
     /// No worker runs a Running task any more.
@@ -100,12 +78,14 @@ impl<K: Copy> Parts<K> {
         requires whole { IsWhole self.old }
         requires running { status (graph_of self.old) task ≡ Running }
         ensures whole { IsWhole self.new }
+        ensures at { (entry : AnyEntry K) → entries_at self.old.entries task ≡ Some entry
+            → (q : ℕ) → entries_at self.new.entries q ≡ put_in task (record entry { runner = None }) (entries_at self.old.entries) q }
         ensures graph { graph_of self.new ≡ given_back (graph_of self.old) task }
         ensures size { IsSameSize self.old.entries self.new.entries }
     {
-        let entry = self.entries.get(task);
-        let row = self.callers.get(entry.caller);
-        self.revise(task, None, entry.asked, row.running - 1);
+        let caller = self.entries.set_runner(task, None);
+        let row = self.callers.get(caller);
+        self.count(caller, row.running - 1);
     }
 
     /// The caller of a task awaits it.
@@ -117,9 +97,7 @@ impl<K: Copy> Parts<K> {
         ensures graph { graph_of self.new ≡ with_asked (graph_of self.old) task number }
         ensures size { IsSameSize self.old.entries self.new.entries }
     {
-        let entry = self.entries.get(task);
-        let row = self.callers.get(entry.caller);
-        self.revise(task, entry.runner, Some(number), row.running);
+        self.entries.set_asked(task, Some(number));
     }
 
     /// The caller of a task awaits it no more.
@@ -130,9 +108,7 @@ impl<K: Copy> Parts<K> {
         ensures graph { graph_of self.new ≡ without_asked (graph_of self.old) task }
         ensures size { IsSameSize self.old.entries self.new.entries }
     {
-        let entry = self.entries.get(task);
-        let row = self.callers.get(entry.caller);
-        self.revise(task, entry.runner, None, row.running);
+        self.entries.set_asked(task, None);
     }
 
     /// A caller is stopped.

@@ -122,10 +122,7 @@ impl<K: Copy> Tasks<K> {
     pub fn awaiter(&self, task: TaskNo) -> Option<Awaiter>
         ensures { IsAwaiterFound self.now.graph task result }
     {
-        match self.held.parts.entries.find(task) {
-            None => None,
-            Some(_) => self.held.parts.awaiter(task),
-        }
+        self.held.parts.awaiter(task)
     }
 
     /// How many await a task; `None` exactly where 2^32 or more do. It costs a step for each.
@@ -133,10 +130,7 @@ impl<K: Copy> Tasks<K> {
         ensures some { IfSome result (λ n. n ≡ length (awaiters self.now.graph task)) }
         ensures none { IfNone result (2 ^ 32 ≤ length (awaiters self.now.graph task)) }
     {
-        match self.held.parts.entries.find(task) {
-            None => Some(0),
-            Some(_) => self.held.parts.awaiters(task),
-        }
+        self.held.parts.awaiters(task)
     }
 
     /// Gives a reference to the awaiter of a task with the least number, which awaits no more. A task whose last input came
@@ -195,8 +189,8 @@ impl<K: Copy> Tasks<K> {
         requires { IsSome (task_at self.now.graph task) }
         ensures { caller_of self.now.graph task ≡ Some result }
     {
-        let entry = self.held.parts.entries.get(task);
-        entry.caller
+        let kept = self.held.parts.entries.look(task);
+        kept.caller
     }
 
     /// The kind of a task.
@@ -204,8 +198,8 @@ impl<K: Copy> Tasks<K> {
         requires { IsSome (task_at self.now.graph task) }
         ensures { kind_of self.now.graph task ≡ Some result }
     {
-        let entry = self.held.parts.entries.get(task);
-        entry.kind
+        let kept = self.held.parts.entries.look(task);
+        kept.kind
     }
 
     /// The input of a task at a place, counted from 0; `None` exactly where the task has no such input, as from place 4 on.
@@ -214,8 +208,8 @@ impl<K: Copy> Tasks<K> {
         ensures input { option_map input_of result ≡ input_at self.now.graph task place }
         ensures few { IfSome result (λ _. place < 4) }
     {
-        let entry = self.held.parts.entries.get(task);
-        input(&entry, place)
+        let kept = self.held.parts.entries.look(task);
+        input(kept, place)
     }
 
     /// The least unfinished task of a caller; `None` exactly where it has none. It is found at once.

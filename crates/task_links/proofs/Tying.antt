@@ -1,13 +1,14 @@
 -- An input that is written into a list joins it.
-use Rattle.std.proofs.Common.{◌≡◌, ℕ, true, false, cond, ◌&&◌, Option, Some, None, nat_eq, refl, sym, ap, ◌∙◌, ◌⊎◌, inl, inr, arith}
+use Rattle.std.proofs.Common.{◌≡◌, ℕ, true, false, cond, ◌&&◌, Option, Some, None, IsSome, nat_eq, refl, sym, ap, ◌∙◌, ◌⊎◌, inl, inr, arith}
 use Rattle.std.specs.Option.{option_map}
 use Rattle.std.proofs.lemmas.Bool.Decides.{nat_tests}
 use Rattle.task_states.proofs.Maps.{same_or_not, test_same, test_apart}
 use Rattle.task_states.proofs.Options.{not_none, same_some, map_behind}
+use Rattle.task_links.specs.declared.entries.Entry.{Entry}
 use Rattle.task_links.specs.declared.entries.Link.{Link}
 use Rattle.task_links.specs.declared.entries.Spot.{Spot}
 use Rattle.task_links.specs.Inside.{is_spot}
-use Rattle.task_links.specs.Weave.{Head, is_at, with_next_at, with_ends, instead, last_behind, IsGap, IsJoined, IsRelinked, IsTied, IsUntied}
+use Rattle.task_links.specs.Weave.{Head, head_of, head_at, is_at, with_next_at, with_ends, with_joined, with_passed, instead, last_behind, IsGap, IsJoined, IsRelinked, IsTied, IsUntied}
 use Rattle.task_links.proofs.Weaving.{same_spot}
 
 pub spot_same : (a : Spot) → is_spot a a ≡ true
@@ -29,6 +30,48 @@ at_or_not spot (Some other) =
       | inl same ↦ inl (ap Some (sym same), ap (is_spot spot) (sym same) ∙ spot_same spot)
       | inr apart ↦ inr (λ is. apart (sym (same_some other spot is)), spot_apart spot other apart)
     ]
+
+other_joined : (q task : ℕ) (own : Head) (before : Option Spot) (spot : Spot) (next : Option Spot) (o : Option Head) → nat_eq q task ≡ false
+    → option_map (with_joined q task before spot next) o ≡ option_map (with_ends q task (instead before spot own.first) (instead next spot own.last)) o
+other_joined q task own before spot next None test = refl
+other_joined q task own before spot next (Some h) test =
+    ap (λ b. Some (record h { first = cond b (instead before spot h.first) h.first; last = cond b (instead next spot h.last) h.last })) test
+    ∙ sym (ap (λ b. Some (record h { first = cond b (instead before spot own.first) h.first; last = cond b (instead next spot own.last) h.last })) test)
+
+-- the ends of a list that an input joined, by the head that was there
+pub joined_as : (heads new_heads : ℕ → Option Head) (task : ℕ) (own : Head) (before : Option Spot) (spot : Spot) (next : Option Spot) → heads task ≡ Some own
+    → ((q : ℕ) → new_heads q ≡ option_map (with_joined q task before spot next) (heads q))
+    → (q : ℕ) → new_heads q ≡ option_map (with_ends q task (instead before spot own.first) (instead next spot own.last)) (heads q)
+joined_as heads new_heads task own before spot next is made q =
+    made q
+    ∙ elim (same_or_not q task) [
+      | inl same ↦
+          let there : heads q ≡ Some own = ap heads same ∙ is in
+          ap (option_map (with_joined q task before spot next)) there ∙ sym (ap (option_map (with_ends q task (instead before spot own.first) (instead next spot own.last))) there)
+      | inr apart ↦ other_joined q task own before spot next (heads q) (test_apart q task apart)
+    ]
+
+other_passed : (q task : ℕ) (own : Head) (next : Option Spot) (o : Option Head) → nat_eq q task ≡ false → option_map (with_passed q task next) o ≡ option_map (with_ends q task next (last_behind next own.last)) o
+other_passed q task own next None test = refl
+other_passed q task own next (Some h) test =
+    ap (λ b. Some (record h { first = cond b next h.first; last = cond b (last_behind next h.last) h.last })) test
+    ∙ sym (ap (λ b. Some (record h { first = cond b next h.first; last = cond b (last_behind next own.last) h.last })) test)
+
+-- the ends of a list whose first has gone, by the head that was there
+pub passed_as : (heads new_heads : ℕ → Option Head) (task : ℕ) (own : Head) (next : Option Spot) → heads task ≡ Some own
+    → ((q : ℕ) → new_heads q ≡ option_map (with_passed q task next) (heads q)) → (q : ℕ) → new_heads q ≡ option_map (with_ends q task next (last_behind next own.last)) (heads q)
+passed_as heads new_heads task own next is made q =
+    made q
+    ∙ elim (same_or_not q task) [
+      | inl same ↦
+          let there : heads q ≡ Some own = ap heads same ∙ is in
+          ap (option_map (with_passed q task next)) there ∙ sym (ap (option_map (with_ends q task next (last_behind next own.last))) there)
+      | inr apart ↦ other_passed q task own next (heads q) (test_apart q task apart)
+    ]
+
+-- what heads the list of a task that is there
+pub head_there : {K : Type 0} (entries : ℕ → Option (Entry K)) (task : ℕ) → IsSome (entries task) → (head : Head) × (head_at entries task ≡ Some head)
+head_there entries task there = elim (entries task) as (λ (o : Option (Entry _)). IsSome o → (head : Head) × (option_map head_of o ≡ Some head)) [ None ↦ λ none. absurd (cc) | Some entry ↦ λ _. (head_of entry, refl) ] there
 
 module _ (heads new_heads : ℕ → Option Head) (links new_links : Spot → Option Link) (spot : Spot) (link : Link) (before : Option Spot) (own : Head)
     (free : links spot ≡ None) (gap : IsGap heads links link.task link.number before link.next) (own_is : heads link.task ≡ Some own)

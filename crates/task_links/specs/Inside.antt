@@ -78,17 +78,21 @@ module _ {K : Type 0} where
   abbrev pub with_input : ℕ → Spot → Input Ref → Unfinished Ref K → Unfinished Ref K
   with_input task spot input unfinished = record unfinished { inputs = cond (nat_eq task spot.task) (set unfinished.inputs spot.place input) unfinished.inputs }
 
-  -- an entry with another worker and another number of its asked output, where it is that of a task
-  abbrev pub with_run_at : ℕ → ℕ → Option ℕ → Option ℕ → Entry K → Entry K
-  with_run_at at task runner asked entry = record entry { runner = cond (nat_eq at task) runner entry.runner; asked = cond (nat_eq at task) asked entry.asked }
+  -- the caller of an entry
+  abbrev pub caller_in : Entry K → ℕ
+  caller_in entry = entry.caller
+
+  -- an entry with another worker, where it is that of a task
+  abbrev pub with_runner_at : ℕ → ℕ → Option ℕ → Entry K → Entry K
+  with_runner_at at task runner entry = record entry { runner = cond (nat_eq at task) runner entry.runner }
+
+  -- an entry with another number of its asked output, where it is that of a task
+  abbrev pub with_asked_at : ℕ → ℕ → Option ℕ → Entry K → Entry K
+  with_asked_at at task asked entry = record entry { asked = cond (nat_eq at task) asked entry.asked }
 
   -- an entry with another input at a place, where it is that of a task
   abbrev pub with_place_at : ℕ → Spot → Place → Entry K → Entry K
   with_place_at at spot place entry = record entry { places = cond (nat_eq at spot.task) (set entry.places spot.place place) entry.places }
-
-  -- an entry with another first and last of its list, where it is that of a task
-  abbrev pub with_ends_at : ℕ → ℕ → Option Spot → Option Spot → Entry K → Entry K
-  with_ends_at at task first last entry = record entry { first = cond (nat_eq at task) first entry.first; last = cond (nat_eq at task) last entry.last }
 
   -- an entry with another one that follows it among those of its caller, where it is that of a task
   abbrev pub with_follower_at : ℕ → ℕ → Option ℕ → Entry K → Entry K

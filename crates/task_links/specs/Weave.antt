@@ -67,6 +67,14 @@ last_behind (Some next) last = last
 abbrev pub with_ends : ℕ → ℕ → Option Spot → Option Spot → Head → Head
 with_ends at task first last head = record head { first = cond (nat_eq at task) first head.first; last = cond (nat_eq at task) last head.last }
 
+-- a head whose list an input joined between two others, where it is that of a task
+abbrev pub with_joined : ℕ → ℕ → Option Spot → Spot → Option Spot → Head → Head
+with_joined at task before spot next head = record head { first = cond (nat_eq at task) (instead before spot head.first) head.first; last = cond (nat_eq at task) (instead next spot head.last) head.last }
+
+-- a head whose list lost its first, by what follows, where it is that of a task
+abbrev pub with_passed : ℕ → ℕ → Option Spot → Head → Head
+with_passed at task next head = record head { first = cond (nat_eq at task) next head.first; last = cond (nat_eq at task) (last_behind next head.last) head.last }
+
 -- the last of a list: an input that awaits the task and has no next one, or nothing where the list is empty
 abbrev pub IsEnd : (Spot → Option Link) → ℕ → Option Spot → Option Spot → Type 0
 IsEnd links task first None = first ≡ None
@@ -93,6 +101,14 @@ module _ {K : Type 0} where
   -- the head of each task's list
   abbrev pub head_at : (ℕ → Option (Entry K)) → ℕ → Option Head
   head_at entries task = option_map head_of (entries task)
+
+  -- an entry whose list an input joined between two others, where it is that of a task
+  abbrev pub with_joined_at : ℕ → ℕ → Option Spot → Spot → Option Spot → Entry K → Entry K
+  with_joined_at at task before spot next entry = record entry { first = cond (nat_eq at task) (instead before spot entry.first) entry.first; last = cond (nat_eq at task) (instead next spot entry.last) entry.last }
+
+  -- an entry whose list lost its first, by what follows, where it is that of a task
+  abbrev pub with_passed_at : ℕ → ℕ → Option Spot → Entry K → Entry K
+  with_passed_at at task next entry = record entry { first = cond (nat_eq at task) next entry.first; last = cond (nat_eq at task) (last_behind next entry.last) entry.last }
 
   -- the link of each awaiting input
   abbrev pub link_at : (ℕ → Option (Entry K)) → Spot → Option Link

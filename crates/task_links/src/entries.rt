@@ -1,16 +1,16 @@
 // The entries of tasks, and the lists of those that await each.
-ghost use Rattle.std.specs.Prelude.{◌≡◌, ◌<◌, ◌≤◌, ◌+◌, ℕ, cond, nat_eq, Some, None, IsSome, IfSome, slice_get};
+ghost use Rattle.std.specs.Prelude.{◌≡◌, ◌<◌, ◌≤◌, ◌+◌, ℕ, cond, nat_eq, Some, None, IsSome};
 ghost use Rattle.std.specs.HashMap.{hash_map_len};
 ghost use Rattle.std.specs.Option.{option_map};
 ghost use Rattle.std.specs.List.{list_any};
 ghost use Rattle.task_states.specs.States.{is_awaiting, status_of};
 ghost use Rattle.task_links.specs.declared.entries.Spot.{Spot as AnySpot};
-ghost use Rattle.task_links.specs.Inside.{entries_at, put_in, room_of, IsSameSize, shown_place, place_at, is_spot, with_input, shown_at, station_at, with_run_at, with_place_at, with_ends_at, with_follower_at, with_leader_at, shown_entry, inputs_of};
-ghost use Rattle.task_links.specs.Kept.{opened, opened_place, first_in, last_in, joined_if};
-ghost use Rattle.task_links.specs.Weave.{head_at, link_at, with_next, with_ends, IsBeside, count_of};
+ghost use Rattle.task_links.specs.Inside.{entries_at, put_in, room_of, IsSameSize, shown_place, place_at, is_spot, with_input, shown_at, station_at, caller_in, with_runner_at, with_asked_at, with_place_at, with_follower_at, with_leader_at};
+ghost use Rattle.task_links.specs.Kept.{opened, opened_place, joined_if};
+ghost use Rattle.task_links.specs.Weave.{head_at, link_at, with_next, with_joined, with_passed, with_joined_at, with_passed_at, IsBeside, count_of};
 ghost use Rattle.task_links.specs.Order.{with_after_at, with_before_at};
 
-use crate::kept::{Halves, Kept, KeptEnds, KeptPlace, kept_ends, kept_place, place, split_if};
+use crate::kept::{Halves, Kept, KeptPlace, kept_place, link_in, split_if};
 use cht_ids::Ref;
 use std::collections::HashMap;
 
@@ -59,9 +59,9 @@ pub struct Entries<K> {
 }
 
 impl<K: Copy> Entries<K> {
-    // What is kept of a task.
+    /// What is kept of a task.
     #[inline(always)]
-    fn look(&self, task: u128) -> &Kept<K>
+    pub fn look(&self, task: u128) -> &Kept<K>
         requires { IsSome (entries_at self.now task) }
         ensures { entries_at self.now task ≡ Some (opened result.now) }
     {
@@ -78,47 +78,40 @@ impl<K: Copy> Entries<K> {
         kept.place(spot.place)
     }
 
-    // Writes the input at a place.
+    // Writes the input at a place. Answers the one that was there.
     #[inline(always)]
-    fn write_place(&mut self, spot: Spot, place: KeptPlace)
+    fn swap_place(&mut self, spot: Spot, place: KeptPlace) -> KeptPlace
         requires { IsSome (place_at (entries_at self.old) spot) }
+        ensures was { place_at (entries_at self.old) spot ≡ Some (opened_place result) }
         ensures at { (q : ℕ) → entries_at self.new q ≡ option_map (with_place_at q spot (opened_place place)) (entries_at self.old q) }
         ensures size { IsSameSize self.old self.new }
     {
-        if let Some(kept) = self.tasks.get_mut(&spot.task) {
-            kept.set_place(spot.place, place);
-        }
+        let kept = self.tasks.get_mut(&spot.task).unwrap();
+        kept.swap_place(spot.place, place)
     }
 
-    // Writes the ends of a task's list.
+    // Writes the ends of a task's list that an input joined between two others.
     #[inline(always)]
-    fn write_ends(&mut self, task: u128, ends: KeptEnds)
+    fn write_joined(&mut self, task: u128, before: Option<Spot>, spot: Spot, next: Option<Spot>)
         requires { IsSome (entries_at self.old task) }
-        ensures at { (q : ℕ) → entries_at self.new q ≡ option_map (with_ends_at q task (first_in ends) (last_in ends)) (entries_at self.old q) }
+        ensures at { (q : ℕ) → entries_at self.new q ≡ option_map (with_joined_at q task before spot next) (entries_at self.old q) }
         ensures size { IsSameSize self.old self.new }
     {
         if let Some(kept) = self.tasks.get_mut(&task) {
-            kept.ends = ends;
+            kept.join_ends(before, spot, next);
         }
     }
 
-    /// The entry of a task.
+    // Writes the ends of a task's list whose first has gone, by what follows.
     #[inline(always)]
-    pub fn get(&self, task: u128) -> Entry<K>
-        requires { IsSome (entries_at self.now task) }
-        ensures { entries_at self.now task ≡ Some result }
+    fn write_passed(&mut self, task: u128, next: Option<Spot>)
+        requires { IsSome (entries_at self.old task) }
+        ensures at { (q : ℕ) → entries_at self.new q ≡ option_map (with_passed_at q task next) (entries_at self.old q) }
+        ensures size { IsSameSize self.old self.new }
     {
-        let kept = self.look(task);
-        kept.open()
-    }
-
-    // The input at a place.
-    #[inline(always)]
-    fn input(&self, spot: Spot) -> Place
-        requires { IsSome (place_at (entries_at self.now) spot) }
-        ensures { place_at (entries_at self.now) spot ≡ Some result }
-    {
-        place(self.kept_input(spot))
+        if let Some(kept) = self.tasks.get_mut(&task) {
+            kept.pass_first(next);
+        }
     }
 
     // The link of an input, where it awaits a task.
@@ -127,10 +120,7 @@ impl<K: Copy> Entries<K> {
         requires { IsSome (place_at (entries_at self.now) spot) }
         ensures { result ≡ link_at (entries_at self.now) spot }
     {
-        match self.input(spot) {
-            Place::Known(_) => None,
-            Place::Awaits(link) => Some(link),
-        }
+        link_in(self.kept_input(spot))
     }
 
     /// The link of an awaiting input.
@@ -142,10 +132,11 @@ impl<K: Copy> Entries<K> {
         self.awaited(spot).unwrap()
     }
 
-    /// Writes the input at a place.
+    /// Writes the input at a place. Answers the link of the one that was there, if it awaited a task.
     #[inline(always)]
-    pub fn set_place(&mut self, spot: Spot, place: Place)
+    pub fn set_place(&mut self, spot: Spot, place: Place) -> Option<Link>
         requires { IsSome (place_at (entries_at self.old) spot) }
+        ensures link { result ≡ link_at (entries_at self.old) spot }
         ensures places { (p : AnySpot) → place_at (entries_at self.new) p ≡ cond (is_spot p spot) (Some place) (place_at (entries_at self.old) p) }
         ensures heads { (q : ℕ) → head_at (entries_at self.new) q ≡ head_at (entries_at self.old) q }
         ensures shown { (q : ℕ) → shown_at (entries_at self.new) q ≡ option_map (with_input q spot (shown_place place)) (shown_at (entries_at self.old) q) }
@@ -153,7 +144,8 @@ impl<K: Copy> Entries<K> {
         ensures counts { (q : ℕ) → option_map count_of (entries_at self.new q) ≡ option_map count_of (entries_at self.old q) }
         ensures size { IsSameSize self.old self.new }
     {
-        self.write_place(spot, kept_place(place));
+        let was = self.swap_place(spot, kept_place(place));
+        link_in(was)
     }
 
     /// Writes the next one of an awaiting input.
@@ -168,22 +160,37 @@ impl<K: Copy> Entries<K> {
         ensures size { IsSameSize self.old self.new }
     {
         let link = self.link(spot);
-        self.set_place(spot, Place::Awaits(Link { next, ..link }));
+        let _was = self.set_place(spot, Place::Awaits(Link { next, ..link }));
     }
 
-    /// Writes the first and the last of a task's list.
+    /// Writes the ends of a task's list that an input joined between two others.
     #[inline(always)]
-    pub fn set_ends(&mut self, task: u128, first: Option<Spot>, last: Option<Spot>)
+    pub fn join_ends(&mut self, task: u128, before: Option<Spot>, spot: Spot, next: Option<Spot>)
         requires { IsSome (entries_at self.old task) }
         ensures links { (p : AnySpot) → link_at (entries_at self.new) p ≡ link_at (entries_at self.old) p }
         ensures places { (p : AnySpot) → place_at (entries_at self.new) p ≡ place_at (entries_at self.old) p }
-        ensures heads { (q : ℕ) → head_at (entries_at self.new) q ≡ option_map (with_ends q task first last) (head_at (entries_at self.old) q) }
+        ensures heads { (q : ℕ) → head_at (entries_at self.new) q ≡ option_map (with_joined q task before spot next) (head_at (entries_at self.old) q) }
         ensures shown { (q : ℕ) → shown_at (entries_at self.new) q ≡ shown_at (entries_at self.old) q }
         ensures stations { (q : ℕ) → station_at (entries_at self.new) q ≡ station_at (entries_at self.old) q }
         ensures counts { (q : ℕ) → option_map count_of (entries_at self.new q) ≡ option_map count_of (entries_at self.old q) }
         ensures size { IsSameSize self.old self.new }
     {
-        self.write_ends(task, kept_ends(first, last));
+        self.write_joined(task, before, spot, next);
+    }
+
+    /// Writes the ends of a task's list whose first has gone, by what follows.
+    #[inline(always)]
+    pub fn pass_first(&mut self, task: u128, next: Option<Spot>)
+        requires { IsSome (entries_at self.old task) }
+        ensures links { (p : AnySpot) → link_at (entries_at self.new) p ≡ link_at (entries_at self.old) p }
+        ensures places { (p : AnySpot) → place_at (entries_at self.new) p ≡ place_at (entries_at self.old) p }
+        ensures heads { (q : ℕ) → head_at (entries_at self.new) q ≡ option_map (with_passed q task next) (head_at (entries_at self.old) q) }
+        ensures shown { (q : ℕ) → shown_at (entries_at self.new) q ≡ shown_at (entries_at self.old) q }
+        ensures stations { (q : ℕ) → station_at (entries_at self.new) q ≡ station_at (entries_at self.old) q }
+        ensures counts { (q : ℕ) → option_map count_of (entries_at self.new q) ≡ option_map count_of (entries_at self.old q) }
+        ensures size { IsSameSize self.old self.new }
+    {
+        self.write_passed(task, next);
     }
 
     // Writes the task that follows a task, as it is kept.
@@ -236,29 +243,41 @@ impl<K: Copy> Entries<K> {
         self.write_before(task, before, has_before);
     }
 
-    // Writes the worker that runs a task, and the number of its asked output as it is kept.
+    /// Writes the worker that runs a task. Answers the task's caller.
     #[inline(always)]
-    fn write_run(&mut self, task: u128, runner: Option<u32>, asked: Halves, is_asked: bool)
+    pub fn set_runner(&mut self, task: u128, runner: Option<u32>) -> u32
         requires { IsSome (entries_at self.old task) }
-        ensures at { (q : ℕ) → entries_at self.new q ≡ option_map (with_run_at q task runner (joined_if asked is_asked)) (entries_at self.old q) }
+        ensures caller { option_map caller_in (entries_at self.old task) ≡ Some result }
+        ensures at { (q : ℕ) → entries_at self.new q ≡ option_map (with_runner_at q task runner) (entries_at self.old q) }
+        ensures size { IsSameSize self.old self.new }
+    {
+        let kept = self.tasks.get_mut(&task).unwrap();
+        kept.runner = runner;
+        kept.caller
+    }
+
+    // Writes the number of a task's asked output, as it is kept.
+    #[inline(always)]
+    fn write_asked(&mut self, task: u128, asked: Halves, is_asked: bool)
+        requires { IsSome (entries_at self.old task) }
+        ensures at { (q : ℕ) → entries_at self.new q ≡ option_map (with_asked_at q task (joined_if asked is_asked)) (entries_at self.old q) }
         ensures size { IsSameSize self.old self.new }
     {
         if let Some(kept) = self.tasks.get_mut(&task) {
-            kept.runner = runner;
             kept.asked = asked;
             kept.is_asked = is_asked;
         }
     }
 
-    /// Writes the worker that runs a task, and the number of its asked output.
+    /// Writes the number of a task's asked output.
     #[inline(always)]
-    pub fn set_run(&mut self, task: u128, runner: Option<u32>, asked: Option<u128>)
+    pub fn set_asked(&mut self, task: u128, asked: Option<u128>)
         requires { IsSome (entries_at self.old task) }
-        ensures at { (q : ℕ) → entries_at self.new q ≡ option_map (with_run_at q task runner asked) (entries_at self.old q) }
+        ensures at { (q : ℕ) → entries_at self.new q ≡ option_map (with_asked_at q task asked) (entries_at self.old q) }
         ensures size { IsSameSize self.old self.new }
     {
         let (asked, is_asked) = split_if(asked);
-        self.write_run(task, runner, asked, is_asked);
+        self.write_asked(task, asked, is_asked);
     }
 
     /// One more task, for which there is room.
@@ -284,22 +303,6 @@ impl<K: Copy> Entries<K> {
     {
         let kept = self.tasks.remove(&task).unwrap();
         kept.open()
-    }
-}
-
-impl<K: Copy> Entry<K> {
-    /// The input at a place, counted from 0, if there is one.
-    #[inline(always)]
-    pub fn input(&self, place: u32) -> Option<Place>
-        requires { self.now.count ≤ 4 }
-        ensures input { result ≡ slice_get (inputs_of self.now) place }
-        ensures few { IfSome result (λ _. place < 4) }
-    {
-        if place < self.count {
-            Some(self.places[place as usize])
-        } else {
-            None
-        }
     }
 }
 

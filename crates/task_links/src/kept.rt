@@ -1,10 +1,11 @@
 // Entries of tasks as they are kept: numbers in halves, so that nothing is aligned to 16 bytes, and few bytes for what may be
 // missing. Fields stand by falling alignment.
-ghost use Rattle.std.specs.Prelude.{◌≡◌, ◌≤◌, map as each, set, slice_get, Some, IsSome};
+ghost use Rattle.std.specs.Prelude.{◌≡◌, ◌<◌, ◌≤◌, map as each, set, slice_get, Some, IsSome, IfSome};
 ghost use Rattle.task_links.specs.declared.entries.Place.TheVariants.{Awaits};
 ghost use Rattle.std.specs.List.{list_any};
 ghost use Rattle.task_states.specs.States.{is_awaiting, status_of};
 ghost use Rattle.task_links.specs.Inside.{shown_place, shown_entry, inputs_of};
+ghost use Rattle.task_links.specs.Weave.{link_of, instead, last_behind};
 ghost use Rattle.task_links.specs.Kept.{joined, joined_if, opened_place, first_in, last_in, opened};
 
 use crate::entries::{Entry, Link, Place, Spot};
@@ -124,7 +125,7 @@ pub(crate) fn kept_place(place: Place) -> KeptPlace
 
 // An input that is kept.
 #[inline(always)]
-pub(crate) fn place(kept: KeptPlace) -> Place
+fn place(kept: KeptPlace) -> Place
     ensures { result ≡ opened_place kept }
 {
     match kept {
@@ -152,6 +153,39 @@ pub(crate) fn place(kept: KeptPlace) -> Place
                 next: Some(next),
             })
         }
+    }
+}
+
+// The link of an input, where it awaits a task.
+#[inline(always)]
+pub(crate) fn link_in(kept: KeptPlace) -> Option<Link>
+    ensures { result ≡ link_of (Some (opened_place kept)) }
+{
+    match place(kept) {
+        Place::Known(_) => None,
+        Place::Awaits(link) => Some(link),
+    }
+}
+
+// An input, or another where nothing is given.
+#[inline(always)]
+fn instead(there: Option<Spot>, spot: Spot, other: Option<Spot>) -> Option<Spot>
+    ensures { result ≡ instead there spot other }
+{
+    match there {
+        None => Some(spot),
+        Some(_) => other,
+    }
+}
+
+// The last of a list whose first has gone, by what follows.
+#[inline(always)]
+fn last_behind(next: Option<Spot>, last: Option<Spot>) -> Option<Spot>
+    ensures { result ≡ last_behind next last }
+{
+    match next {
+        None => None,
+        Some(_) => last,
     }
 }
 
@@ -285,12 +319,58 @@ impl<K: Copy> Kept<K> {
         }
     }
 
+    /// The number of the asked output, if the caller awaits it.
+    #[inline(always)]
+    pub fn asked(&self) -> Option<u128>
+        ensures { result ≡ (opened self.now).asked }
+    {
+        whole_if(self.asked, self.is_asked)
+    }
+
+    /// The first input that awaits the task, if one does.
+    #[inline(always)]
+    pub fn first(&self) -> Option<Spot>
+        ensures { result ≡ (opened self.now).first }
+    {
+        first(self.ends)
+    }
+
+    /// The last input that awaits the task, if one does.
+    #[inline(always)]
+    pub fn last(&self) -> Option<Spot>
+        ensures { result ≡ (opened self.now).last }
+    {
+        last(self.ends)
+    }
+
+    /// The task that stands before among those of the caller, if there is one.
+    #[inline(always)]
+    pub fn leader(&self) -> Option<u128>
+        ensures { result ≡ (opened self.now).before }
+    {
+        whole_if(self.before, self.has_before)
+    }
+
     /// The task that follows among those of the caller, if there is one.
     #[inline(always)]
     pub fn follower(&self) -> Option<u128>
         ensures { result ≡ (opened self.now).after }
     {
         whole_if(self.after, self.has_after)
+    }
+
+    /// The input at a place, counted from 0, if there is one.
+    #[inline(always)]
+    pub fn input(&self, at: u32) -> Option<Place>
+        requires { self.now.count ≤ 4 }
+        ensures input { result ≡ slice_get (inputs_of (opened self.now)) at }
+        ensures few { IfSome result (λ _. at < 4) }
+    {
+        if at < self.count {
+            Some(place(self.place(at)))
+        } else {
+            None
+        }
     }
 
     // The input at a place, as it is kept.
@@ -304,11 +384,42 @@ impl<K: Copy> Kept<K> {
 
     // Writes the input at a place.
     #[inline(always)]
-    pub(crate) fn set_place(&mut self, place: u32, kept: KeptPlace)
+    fn set_place(&mut self, place: u32, kept: KeptPlace)
         requires { IsSome (slice_get (inputs_of (opened self.old)) place) }
         ensures { opened self.new ≡ record (opened self.old) { places = set (opened self.old).places place (opened_place kept) } }
     {
         self.places[place as usize] = kept;
+    }
+
+    // Writes the input at a place. Answers the one that was there.
+    #[inline(always)]
+    pub(crate) fn swap_place(&mut self, place: u32, kept: KeptPlace) -> KeptPlace
+        requires { IsSome (slice_get (inputs_of (opened self.old)) place) }
+        ensures was { slice_get (inputs_of (opened self.old)) place ≡ Some (opened_place result) }
+        ensures written { opened self.new ≡ record (opened self.old) { places = set (opened self.old).places place (opened_place kept) } }
+    {
+        let was = self.place(place);
+        self.set_place(place, kept);
+        was
+    }
+
+    // Writes the ends of the task's list that an input joined between two others.
+    #[inline(always)]
+    pub(crate) fn join_ends(&mut self, before: Option<Spot>, spot: Spot, next: Option<Spot>)
+        ensures { opened self.new ≡ record (opened self.old) { first = instead before spot (opened self.old).first; last = instead next spot (opened self.old).last } }
+    {
+        let first = instead(before, spot, self.first());
+        let last = instead(next, spot, self.last());
+        self.ends = kept_ends(first, last);
+    }
+
+    // Writes the ends of the task's list whose first has gone, by what follows.
+    #[inline(always)]
+    pub(crate) fn pass_first(&mut self, next: Option<Spot>)
+        ensures { opened self.new ≡ record (opened self.old) { first = next; last = last_behind next (opened self.old).last } }
+    {
+        let last = last_behind(next, self.last());
+        self.ends = kept_ends(next, last);
     }
 
     /// An entry as it is kept.

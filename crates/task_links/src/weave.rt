@@ -5,30 +5,10 @@ ghost use Rattle.task_states.specs.States.{Known as KnownInput, Awaits as Awaits
 ghost use Rattle.task_links.specs.declared.entries.Spot.{Spot as AnySpot};
 ghost use Rattle.task_links.specs.declared.entries.Place.TheVariants.{Awaits as AwaitsPlace};
 ghost use Rattle.task_links.specs.Inside.{entries_at, IsSameSize, shown_place, place_at, with_input, shown_at, station_at};
-ghost use Rattle.task_links.specs.Weave.{head_at, link_at, with_next_at, instead, last_behind, IsGap, IsTied, IsUntied, IsWoven, IsUnused, IsBelow, IsUnasked, IsAtHome, IsFirst, count_of};
+ghost use Rattle.task_links.specs.Weave.{head_at, link_at, with_next_at, IsGap, IsTied, IsUntied, IsWoven, IsUnused, IsBelow, IsUnasked, IsAtHome, IsFirst, count_of};
 
 use crate::entries::{Entries, Link, Place, Spot};
 use cht_ids::Ref;
-
-// An input, or another where nothing is given.
-fn instead(there: Option<Spot>, spot: Spot, other: Option<Spot>) -> Option<Spot>
-    ensures { result ≡ instead there spot other }
-{
-    match there {
-        None => Some(spot),
-        Some(_) => other,
-    }
-}
-
-// The last of a list whose first has gone, by what follows.
-fn last_behind(next: Option<Spot>, last: Option<Spot>) -> Option<Spot>
-    ensures { result ≡ last_behind next last }
-{
-    match next {
-        None => None,
-        Some(_) => last,
-    }
-}
 
 impl<K: Copy> Entries<K> {
     // Writes the next one of an awaiting input, if one is given.
@@ -73,14 +53,14 @@ impl<K: Copy> Entries<K> {
         requires unused { IsUnused (link_at (entries_at self.now)) number }
         ensures { IsGap (head_at (entries_at self.now)) (link_at (entries_at self.now)) task number result.0 result.1 }
     {
-        let entry = self.get(task);
-        if let Some(last) = entry.last {
+        let kept = self.look(task);
+        if let Some(last) = kept.last() {
             let link = self.link(last);
             if link.number < number {
-                return (entry.last, None);
+                return (Some(last), None);
             }
         }
-        self.walk(task, number, entry.first)
+        self.walk(task, number, kept.first())
     }
 
     // An input that does not await joins the list of a task, between two others.
@@ -96,12 +76,9 @@ impl<K: Copy> Entries<K> {
         ensures counts { (q : ℕ) → option_map count_of (entries_at self.new q) ≡ option_map count_of (entries_at self.old q) }
         ensures size { IsSameSize self.old self.new }
     {
-        self.set_place(spot, Place::Awaits(link));
+        let _was = self.set_place(spot, Place::Awaits(link));
         self.set_behind(before, Some(spot));
-        let entry = self.get(link.task);
-        let first = instead(before, spot, entry.first);
-        let last = instead(link.next, spot, entry.last);
-        self.set_ends(link.task, first, last);
+        self.join_ends(link.task, before, spot, link.next);
     }
 
     /// An input that does not await comes to await a task of the same caller, under a number that no awaiter has.
@@ -137,11 +114,9 @@ impl<K: Copy> Entries<K> {
         ensures counts { (q : ℕ) → option_map count_of (entries_at self.new q) ≡ option_map count_of (entries_at self.old q) }
         ensures size { IsSameSize self.old self.new }
     {
-        let link = self.link(spot);
-        self.set_place(spot, Place::Known(r));
-        let entry = self.get(link.task);
-        let last = last_behind(link.next, entry.last);
-        self.set_ends(link.task, link.next, last);
+        let was = self.set_place(spot, Place::Known(r));
+        let link = was.unwrap();
+        self.pass_first(link.task, link.next);
         link
     }
 }

@@ -1,4 +1,5 @@
-use Rattle.std.proofs.Common.{◌<◌, Some, ap, sym, subst, ◌∙◌, refl}
+use Rattle.task_links.specs.Kept.{opened}
+use Rattle.std.proofs.Common.{◌<◌, Some, ap, sym, subst, ◌∙◌}
 use Rattle.task_states.proofs.Options.{same_some}
 use Rattle.task_links.specs.Inside.{entries_at}
 use Rattle.task_graph.specs.Graphs.{graph_of}
@@ -13,8 +14,8 @@ returns-then-task-after g c =
     let ceiling = subst (IsCeiling (graph_of c.args.self.now) c.args.caller c.args.after) c.in-Some.is c.loop-at.invariant in
     found_above c.args.self.now c.requires.whole c.args.caller c.args.after c.in-Some.task ceiling c.if-task-after.true
 
-pub get-entry-requires : goal.get-entry-requires
-get-entry-requires g c =
+pub look-kept-requires : goal.look-kept-requires
+look-kept-requires g c =
     let ceiling = subst (IsCeiling (graph_of c.args.self.now) c.args.caller c.args.after) c.in-Some.is c.loop-at.invariant in
     let e = entry_of_caller c.args.self.now c.in-Some.task c.args.caller ceiling.0 in
     some_is (entries_at c.args.self.now.entries c.in-Some.task) e.0 e.1
@@ -22,14 +23,16 @@ get-entry-requires g c =
 pub loop-at-preserved : goal.loop-at-preserved
 loop-at-preserved g c =
     let ceiling = subst (IsCeiling (graph_of c.args.self.now) c.args.caller c.args.after) c.in-Some.is c.loop-at.invariant in
-    ceiling_next c.args.self.now c.requires.whole c.args.caller c.args.after c.in-Some.task c.get-entry.result ceiling c.get-entry.ensures c.if-task-after.false
+    subst (IsCeiling (graph_of c.args.self.now) c.args.caller c.args.after) (sym c.follower-at.ensures)
+    (ceiling_next c.args.self.now c.requires.whole c.args.caller c.args.after c.in-Some.task (opened c.look-kept.result.now) ceiling c.look-kept.ensures c.if-task-after.false)
 
 pub loop-at-smaller : goal.loop-at-smaller
 loop-at-smaller g c =
     let ceiling = subst (IsCeiling (graph_of c.args.self.now) c.args.caller c.args.after) c.in-Some.is c.loop-at.invariant in
-    let of = same_some c.get-entry.result.caller c.args.caller (sym (caller_there c.args.self.now c.requires.whole c.in-Some.task c.get-entry.result c.get-entry.ensures) ∙ ceiling.0) in
-    subst (λ o. rest_to c.args.last c.get-entry.result.after < rest_to c.args.last o) (sym c.in-Some.is)
-    (nearer_last c.args.self.now c.requires.whole c.args.last c.in-Some.task c.get-entry.result c.get-entry.result.after refl c.get-entry.ensures (λ n is. c.requires.last n (is ∙ ap Some of)))
+    let e = opened c.look-kept.result.now in
+    let of = same_some e.caller c.args.caller (sym (caller_there c.args.self.now c.requires.whole c.in-Some.task e c.look-kept.ensures) ∙ ceiling.0) in
+    subst (λ o. rest_to c.args.last c.follower-at.result < rest_to c.args.last o) (sym c.in-Some.is)
+    (nearer_last c.args.self.now c.requires.whole c.args.last c.in-Some.task e c.follower-at.result (sym c.follower-at.ensures) c.look-kept.ensures (λ n is. c.requires.last n (is ∙ ap Some of)))
 
 pub returns : goal.returns
 returns g c = none_above c.args.self.now c.requires.whole c.args.caller c.args.after (subst (IsCeiling (graph_of c.args.self.now) c.args.caller c.args.after) c.in_default.is c.loop-at.invariant)

@@ -1,3 +1,4 @@
+use Rattle.task_links.specs.Kept.{opened}
 use Rattle.std.proofs.Common.{ap, refl, subst, sym}
 use Rattle.std.specs.Option.{option_map}
 use Rattle.task_links.specs.Inside.{entries_at, station_at, station_of}
@@ -12,5 +13,5 @@ returns-in-None g c =
 
 pub returns-in-Some : goal.returns-in-Some
 returns-in-Some g c =
-    subst (λ o. IsBehind (bounds_at (caller_at c.args.self.now.callers)) (station_at (entries_at c.args.self.now.entries)) c.args.caller o c.get-entry.result.after) (sym c.in-Some.is)
-    (station_of c.get-entry.result, ap (option_map station_of) c.get-entry.ensures, refl)
+    subst (λ o. IsBehind (bounds_at (caller_at c.args.self.now.callers)) (station_at (entries_at c.args.self.now.entries)) c.args.caller o c.follower.result) (sym c.in-Some.is)
+    (station_of (opened c.look-kept.result.now), ap (option_map station_of) c.look-kept.ensures, c.follower.ensures)

@@ -1,3 +1,4 @@
+use Rattle.task_links.specs.Kept.{opened}
 use Rattle.std.proofs.Common.{◌≡◌, ap, refl, subst, Some, arith, ◌∙◌, sym}
 use Rattle.std.specs.Option.{option_map}
 use Rattle.task_states.proofs.Options.{not_none, same_some}
@@ -15,9 +16,9 @@ loop-at-init g c =
 pub loop-at-preserved : goal.loop-at-preserved
 loop-at-preserved g c =
     let floor : IsFloor (station_at (entries_at c.args.self.now.entries)) c.args.caller c.args.task (Some c.in-Some.other) = subst (IsFloor (station_at (entries_at c.args.self.now.entries)) c.args.caller c.args.task) c.in-Some.is c.loop-at.invariant in
-    let there : station_at (entries_at c.args.self.now.entries) c.in-Some.other ≡ Some (station_of c.get-entry.result) = ap (option_map station_of) c.get-entry.ensures in
-    let own : floor.0 ≡ station_of c.get-entry.result = same_some floor.0 (station_of c.get-entry.result) (sym floor.1 ∙ there) in
-    let apart : c.in-Some.other ≡ c.args.task → ⊥ = λ same. not_none (entries_at c.args.self.now.entries c.args.task) c.get-entry.result c.requires.new (sym (ap (entries_at c.args.self.now.entries) same) ∙ c.get-entry.ensures) in
+    let there : station_at (entries_at c.args.self.now.entries) c.in-Some.other ≡ Some (station_of (opened c.look-kept.result.now)) = ap (option_map station_of) c.look-kept.ensures in
+    let own : floor.0 ≡ station_of (opened c.look-kept.result.now) = same_some floor.0 (station_of (opened c.look-kept.result.now)) (sym floor.1 ∙ there) in
+    let apart : c.in-Some.other ≡ c.args.task → ⊥ = λ same. not_none (entries_at c.args.self.now.entries c.args.task) (opened c.look-kept.result.now) c.requires.new (sym (ap (entries_at c.args.self.now.entries) same) ∙ c.look-kept.ensures) in
     let low = c.if-other-task.false in
-    floor_next (bounds_at (caller_at c.args.self.now.callers)) (station_at (entries_at c.args.self.now.entries)) c.args.caller c.args.task c.requires.ordered c.in-Some.other (station_of c.get-entry.result) there
-    (ap (λ (s : Station). s.caller) (sym own) ∙ floor.2) (omega arith) c.get-entry.result.before refl
+    floor_next (bounds_at (caller_at c.args.self.now.callers)) (station_at (entries_at c.args.self.now.entries)) c.args.caller c.args.task c.requires.ordered c.in-Some.other (station_of (opened c.look-kept.result.now)) there
+    (ap (λ (s : Station). s.caller) (sym own) ∙ floor.2) (omega arith) c.leader-at.result (sym c.leader-at.ensures)

@@ -1,29 +1,49 @@
-use Rattle.std.proofs.Common.{None, sym, subst, ◌∙◌}
+use Rattle.std.proofs.Common.{◌≡◌, ◌<◌, ◌-◌, Some, None, ap, subst, ◌∙◌}
 use Rattle.task_states.specs.declared.states.TaskStatus.TheVariants.{Running}
-use Rattle.task_states.proofs.Options.{same_some}
-use Rattle.task_links.specs.Inside.{shown_entry}
-use Rattle.task_graph.specs.Graphs.{graph_of, IsRevised}
-use Rattle.task_graph.proofs.Marking.{entry_of_status, back_revised, back_some, as_changed}
-use Rattle.task_graph.proofs.Runs.{caller_low, task_there}
-use Rattle.std.proofs.Common.{◌-◌}
+use Rattle.task_links.specs.Callers.{caller_at}
+use Rattle.task_links.specs.Inside.{entries_at}
+use Rattle.task_graph.proofs.Marking.{entry_of_status, some_of_status, back_revised, back_some}
+use Rattle.task_graph.proofs.Runners.{caller_is, run-at, run-whole, run-graph}
+use Rattle.task_graph.proofs.Runs.{caller_low}
 use Rattle.task_graph.proofs.parts.Parts.give_back.Goals as goal
 
-pub get-entry-requires : goal.get-entry-requires
-get-entry-requires g c = entry_of_status c.args.self.now c.args.task Running c.requires.running (λ clash. cc)
+pub set_runner-caller-requires : goal.set_runner-caller-requires
+set_runner-caller-requires g c = entry_of_status c.args.self.now c.args.task Running c.requires.running (λ clash. cc)
 
 pub get-row-requires : goal.get-row-requires
-get-row-requires g c = caller_low c.args.self.now c.requires.whole c.args.task c.get-entry.result c.get-entry.ensures
+get-row-requires g c =
+    let e = some_of_status c.args.self.now c.args.task Running c.requires.running (λ clash. cc) in
+    subst (λ n. n < 64) (caller_is (entries_at c.args.self.now.entries c.args.task) e.0 c.set_runner-caller.result e.1 c.set_runner-caller.ensures.caller) (caller_low c.args.self.now c.requires.whole c.args.task e.0 e.1)
 
 pub overflow_sub-row : goal.overflow_sub-row
-overflow_sub-row g c = back_some c.args.self.now c.args.task c.get-entry.result c.get-row.result c.requires.whole c.get-entry.ensures c.get-row.ensures c.requires.running
+overflow_sub-row g c =
+    let e = some_of_status c.args.self.now c.args.task Running c.requires.running (λ clash. cc) in
+    let own = caller_is (entries_at c.args.self.now.entries c.args.task) e.0 c.set_runner-caller.result e.1 c.set_runner-caller.ensures.caller in
+    let row : caller_at c.args.self.now.callers e.0.caller ≡ Some c.get-row.result = ap (caller_at c.args.self.now.callers) own ∙ c.get-row.ensures in
+    back_some c.args.self.now c.args.task e.0 c.get-row.result c.requires.whole e.1 row c.requires.running
 
-pub revise-requires-clause-revised : goal.revise-requires-clause-revised
-revise-requires-clause-revised g c = λ entry is.
-    subst (λ e. IsRevised c.args.self.now c.args.task e None c.get-entry.result.asked (c.get-row.result.running - 1)) (same_some c.get-entry.result entry (sym c.get-entry.ensures ∙ is))
-    (back_revised c.args.self.now c.args.task c.get-entry.result c.get-row.result c.requires.whole c.get-entry.ensures c.get-row.ensures c.requires.running
-    (back_some c.args.self.now c.args.task c.get-entry.result c.get-row.result c.requires.whole c.get-entry.ensures c.get-row.ensures c.requires.running))
+pub returns-clause-whole : goal.returns-clause-whole
+returns-clause-whole g c =
+    let e = some_of_status c.args.self.now c.args.task Running c.requires.running (λ clash. cc) in
+    let own = caller_is (entries_at c.args.self.now.entries c.args.task) e.0 c.set_runner-caller.result e.1 c.set_runner-caller.ensures.caller in
+    let row : caller_at c.args.self.now.callers e.0.caller ≡ Some c.get-row.result = ap (caller_at c.args.self.now.callers) own ∙ c.get-row.ensures in
+    run-whole c.args.self.now c.count.new.self c.args.task e.0 None c.set_runner-caller.result (c.get-row.result.running - 1) c.requires.whole e.1 own
+    (back_revised c.args.self.now c.args.task e.0 c.get-row.result c.requires.whole e.1 row c.requires.running (back_some c.args.self.now c.args.task e.0 c.get-row.result c.requires.whole e.1 row c.requires.running))
+    (λ q. ap (λ es. entries_at es q) c.count.ensures.entries ∙ c.set_runner-caller.ensures.at q) c.count.ensures.callers c.count.ensures.len
 
 pub returns-clause-graph : goal.returns-clause-graph
 returns-clause-graph g c =
-    c.revise.ensures.graph c.get-entry.result c.get-entry.ensures
-    ∙ as_changed (graph_of c.args.self.now) c.args.task (shown_entry c.get-entry.result) (λ u. record u { runner = None }) (task_there c.args.self.now c.args.task c.get-entry.result c.get-entry.ensures)
+    let e = some_of_status c.args.self.now c.args.task Running c.requires.running (λ clash. cc) in
+    let own = caller_is (entries_at c.args.self.now.entries c.args.task) e.0 c.set_runner-caller.result e.1 c.set_runner-caller.ensures.caller in
+    let row : caller_at c.args.self.now.callers e.0.caller ≡ Some c.get-row.result = ap (caller_at c.args.self.now.callers) own ∙ c.get-row.ensures in
+    run-graph c.args.self.now c.count.new.self c.args.task e.0 None c.set_runner-caller.result (c.get-row.result.running - 1) c.requires.whole e.1 own
+    (back_revised c.args.self.now c.args.task e.0 c.get-row.result c.requires.whole e.1 row c.requires.running (back_some c.args.self.now c.args.task e.0 c.get-row.result c.requires.whole e.1 row c.requires.running))
+    (λ q. ap (λ es. entries_at es q) c.count.ensures.entries ∙ c.set_runner-caller.ensures.at q) c.count.ensures.callers c.count.ensures.len
+
+pub returns-clause-at : goal.returns-clause-at
+returns-clause-at g c = λ entry is.
+    let own = caller_is (entries_at c.args.self.now.entries c.args.task) entry c.set_runner-caller.result is c.set_runner-caller.ensures.caller in
+    let row : caller_at c.args.self.now.callers entry.caller ≡ Some c.get-row.result = ap (caller_at c.args.self.now.callers) own ∙ c.get-row.ensures in
+    run-at c.args.self.now c.count.new.self c.args.task entry None c.set_runner-caller.result (c.get-row.result.running - 1) c.requires.whole is own
+    (back_revised c.args.self.now c.args.task entry c.get-row.result c.requires.whole is row c.requires.running (back_some c.args.self.now c.args.task entry c.get-row.result c.requires.whole is row c.requires.running))
+    (λ q. ap (λ es. entries_at es q) c.count.ensures.entries ∙ c.set_runner-caller.ensures.at q) c.count.ensures.callers c.count.ensures.len

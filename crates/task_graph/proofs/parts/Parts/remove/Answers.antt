@@ -1,42 +1,35 @@
-use Rattle.std.proofs.Common.{◌-◌, None, sym, subst, ap, ◌∙◌, arith}
+use Rattle.std.proofs.Common.{None, sym, ap, ◌∙◌, arith}
 use Rattle.std.proofs.lemmas.Grind.{common_steps}
 use Rattle.task_states.specs.Steps.{removed}
-use Rattle.task_states.proofs.Options.{same_some}
 use Rattle.task_links.specs.Inside.{shown_entry}
-use Rattle.task_graph.specs.Graphs.{graph_of, IsRevised}
-use Rattle.task_graph.proofs.Marking.{entry_of, back_revised, back_some}
+use Rattle.task_links.specs.Kept.{opened}
+use Rattle.task_graph.specs.Graphs.{graph_of}
+use Rattle.task_graph.proofs.Marking.{entry_of, as_changed}
 use Rattle.task_graph.proofs.Awaiting.{idle_of, idle_links, none_from, status_running, revised_idle, removed_revised}
-use Rattle.task_graph.proofs.Runs.{caller_low}
+use Rattle.task_graph.proofs.Runs.{task_there}
 use Rattle.task_graph.proofs.parts.Parts.remove.Goals as goal
 
-pub get-entry-requires : goal.get-entry-requires
-get-entry-requires g c = entry_of c.args.self.now c.args.task c.requires.there
+pub look-requires : goal.look-requires
+look-requires g c = entry_of c.args.self.now c.args.task c.requires.there
 
-pub get-row-requires : goal.get-row-requires
-get-row-requires g c = caller_low c.args.self.now c.requires.whole c.args.task c.get-entry.result c.get-entry.ensures
-
-pub overflow_sub-row : goal.overflow_sub-row
-overflow_sub-row g c =
-    back_some c.args.self.now c.args.task c.get-entry.result c.get-row.result c.requires.whole c.get-entry.ensures c.get-row.ensures
-    (status_running c.args.self.now c.args.task c.get-entry.result c.requires.whole c.get-entry.ensures c.requires.waits (grind (arith, common_steps)))
-
-pub revise-requires-clause-revised : goal.revise-requires-clause-revised
-revise-requires-clause-revised g c = λ entry is.
-    let runs = status_running c.args.self.now c.args.task c.get-entry.result c.requires.whole c.get-entry.ensures c.requires.waits (grind (arith, common_steps)) in
-    subst (λ e. IsRevised c.args.self.now c.args.task e None c.get-entry.result.asked (c.get-row.result.running - 1)) (same_some c.get-entry.result entry (sym c.get-entry.ensures ∙ is))
-    (back_revised c.args.self.now c.args.task c.get-entry.result c.get-row.result c.requires.whole c.get-entry.ensures c.get-row.ensures runs
-    (back_some c.args.self.now c.args.task c.get-entry.result c.get-row.result c.requires.whole c.get-entry.ensures c.get-row.ensures runs))
+pub give_back-requires-clause-running : goal.give_back-requires-clause-running
+give_back-requires-clause-running g c =
+    status_running c.args.self.now c.args.task (opened c.look.result.now) c.requires.whole c.look.ensures c.requires.waits (grind (arith, common_steps))
 
 pub take_idle-requires-clause-idle : goal.take_idle-requires-clause-idle
 take_idle-requires-clause-idle g c =
-    let idle = idle_links c.args.self.now c.args.task c.get-entry.result c.requires.whole c.get-entry.ensures c.requires.waits c.requires.awaited in
-    revised_idle c.args.self.now c.revise.new.self c.args.task c.get-entry.result c.get-entry.result.asked c.get-entry.ensures (c.revise.ensures.at c.get-entry.result c.get-entry.ensures) idle.0 idle.1
+    let e = opened c.look.result.now in
+    let idle = idle_links c.args.self.now c.args.task e c.requires.whole c.look.ensures c.requires.waits c.requires.awaited in
+    revised_idle c.args.self.now c.give_back.new.self c.args.task e e.asked c.look.ensures (c.give_back.ensures.at e c.look.ensures) idle.0 idle.1
 
 pub take_idle-requires-else-is_some-clause-idle : goal.take_idle-requires-else-is_some-clause-idle
 take_idle-requires-else-is_some-clause-idle g c =
-    idle_of c.args.self.now c.args.task c.get-entry.result c.requires.whole c.get-entry.ensures (none_from c.get-entry.result.runner (grind (arith, common_steps))) c.requires.waits c.requires.awaited
+    let e = opened c.look.result.now in
+    idle_of c.args.self.now c.args.task e c.requires.whole c.look.ensures (none_from e.runner (grind (arith, common_steps))) c.requires.waits c.requires.awaited
 
 pub returns-then-is_some-clause-graph : goal.returns-then-is_some-clause-graph
 returns-then-is_some-clause-graph g c =
-    c.take_idle.ensures.graph ∙ ap (λ graph. removed graph c.args.task) (c.revise.ensures.graph c.get-entry.result c.get-entry.ensures)
-    ∙ removed_revised (graph_of c.args.self.now) c.args.task (shown_entry c.get-entry.result) None c.get-entry.result.asked
+    let e = opened c.look.result.now in
+    c.take_idle.ensures.graph
+    ∙ ap (λ graph. removed graph c.args.task) (c.give_back.ensures.graph ∙ sym (as_changed (graph_of c.args.self.now) c.args.task (shown_entry e) (λ u. record u { runner = None }) (task_there c.args.self.now c.args.task e c.look.ensures)))
+    ∙ removed_revised (graph_of c.args.self.now) c.args.task (shown_entry e) None e.asked

@@ -1,24 +1,20 @@
-use Rattle.std.proofs.Common.{None, sym, subst, ◌∙◌, refl}
-use Rattle.task_states.proofs.Options.{same_some, not_none}
-use Rattle.task_links.specs.Inside.{shown_entry}
-use Rattle.task_graph.specs.Graphs.{graph_of, IsRevised}
-use Rattle.task_graph.proofs.Marking.{entry_of, ask_revised, as_changed}
-use Rattle.task_graph.proofs.Runs.{caller_low, task_there}
+use Rattle.std.proofs.Common.{None, refl}
+use Rattle.task_states.proofs.Options.{not_none}
+use Rattle.task_graph.proofs.Marking.{entry_of, some_entry}
+use Rattle.task_graph.proofs.Runners.{asked-whole, asked-graph}
 use Rattle.task_graph.proofs.parts.Parts.unask.Goals as goal
 
-pub get-entry-requires : goal.get-entry-requires
-get-entry-requires g c = entry_of c.args.self.now c.args.task c.requires.there
+pub set_asked-requires : goal.set_asked-requires
+set_asked-requires g c = entry_of c.args.self.now c.args.task c.requires.there
 
-pub get-row-requires : goal.get-row-requires
-get-row-requires g c = caller_low c.args.self.now c.requires.whole c.args.task c.get-entry.result c.get-entry.ensures
-
-pub revise-requires-clause-revised : goal.revise-requires-clause-revised
-revise-requires-clause-revised g c = λ entry is.
-    subst (λ e. IsRevised c.args.self.now c.args.task e c.get-entry.result.runner None c.get-row.result.running) (same_some c.get-entry.result entry (sym c.get-entry.ensures ∙ is))
-    (ask_revised c.args.self.now c.args.task c.get-entry.result c.get-row.result None c.requires.whole c.get-entry.ensures c.get-row.ensures
-    (λ n same. absurd (not_none None n refl same)))
+pub returns-clause-whole : goal.returns-clause-whole
+returns-clause-whole g c =
+    let e = some_entry c.args.self.now c.args.task c.requires.there in
+    asked-whole c.args.self.now (record c.args.self.now { entries = c.set_asked.new.self }) c.args.task e.0 None c.requires.whole e.1
+    (λ n same. absurd (not_none None n refl same)) refl c.set_asked.ensures.at
 
 pub returns-clause-graph : goal.returns-clause-graph
 returns-clause-graph g c =
-    c.revise.ensures.graph c.get-entry.result c.get-entry.ensures
-    ∙ as_changed (graph_of c.args.self.now) c.args.task (shown_entry c.get-entry.result) (λ u. record u { asked = None }) (task_there c.args.self.now c.args.task c.get-entry.result c.get-entry.ensures)
+    let e = some_entry c.args.self.now c.args.task c.requires.there in
+    asked-graph c.args.self.now (record c.args.self.now { entries = c.set_asked.new.self }) c.args.task e.0 None c.requires.whole e.1
+    (λ n same. absurd (not_none None n refl same)) refl c.set_asked.ensures.at

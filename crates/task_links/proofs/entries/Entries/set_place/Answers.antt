@@ -5,14 +5,14 @@ use Rattle.task_links.specs.declared.entries.Entry.{Entry}
 use Rattle.task_links.proofs.Writing.{placed, shown_placed, put_place, entry_there}
 use Rattle.task_links.proofs.entries.Entries.set_place.Goals as goal
 
-entry : (g : _) (c : goal.After-write_place g) → (e : Entry _) × (entries_at c.args.self.now c.args.spot.task ≡ Some e)
+entry : (g : _) (c : goal.After-link_in g) → (e : Entry _) × (entries_at c.args.self.now c.args.spot.task ≡ Some e)
 entry g c = entry_there (entries_at c.args.self.now c.args.spot.task) c.args.spot.place c.requires
 
-written : (g : _) (c : goal.After-write_place g) (q : ℕ)
-    → entries_at c.write_place.new.self q ≡ put_in c.args.spot.task (record ((entry g c).0) { places = set ((entry g c).0).places c.args.spot.place c.args.place }) (entries_at c.args.self.now) q
+written : (g : _) (c : goal.After-link_in g) (q : ℕ)
+    → entries_at c.swap_place-was.new.self q ≡ put_in c.args.spot.task (record ((entry g c).0) { places = set ((entry g c).0).places c.args.spot.place c.args.place }) (entries_at c.args.self.now) q
 written g c =
-    put_place (entries_at c.args.self.now) (entries_at c.write_place.new.self) c.args.spot c.args.place ((entry g c).0) ((entry g c).1)
-    (λ q. c.write_place.ensures.at q ∙ ap (λ place. option_map (with_place_at q c.args.spot place) (entries_at c.args.self.now q)) c.kept_place.ensures)
+    put_place (entries_at c.args.self.now) (entries_at c.swap_place-was.new.self) c.args.spot c.args.place ((entry g c).0) ((entry g c).1)
+    (λ q. c.swap_place-was.ensures.at q ∙ ap (λ place. option_map (with_place_at q c.args.spot place) (entries_at c.args.self.now q)) c.kept_place.ensures)
 
 pub returns-clause-places : goal.returns-clause-places
 returns-clause-places g c = placed _ _ c.args.spot ((entry g c).0) c.args.place ((entry g c).1) c.requires (written g c)
