@@ -17,7 +17,7 @@ use Rattle.quad_matrix.specs.Blocks.{block_of, canonical, number_tree, alone, Is
 use Rattle.quad_matrix.specs.Goals.{kind_of, goal_at, goal_of, FitsAt}
 use Rattle.quad_matrix.specs.Works.{assign_work, work_of}
 use Rattle.quad_matrix.specs.Products.{Neither, First, Second}
-use Rattle.quad_matrix.proofs.Lists.{sound_some}
+use Rattle.quad_matrix.proofs.ForOthers.{sound_some}
 use Rattle.quad_matrix.proofs.ForOthers.{block_of_canonical, nothing_is_canonical, is_there_canonical, add_canonical, spots_whole, spots_tall, assign_canonical, goal_any, product_fits_by_peaks, product_goal_stands, peak_of_root, peak-zeros}
 use Rattle.cht_script.specs.Statements.{general, shapes_fit}
 use Rattle.cht_script.specs.Meaning.{limit, is_bounded, matrix_given}

@@ -1,4 +1,4 @@
-//! The calls of `Core`: one sum of two numbers, from the first number to the last identifier.
+//! The calls of `Core` over numbers and their sums, one by one: what each wants of the calls before it, and what it leaves.
 ghost use Rattle.std.specs.Prelude.{◌≡◌, ℕ, ◌<◌, Some, IfOk, IfSome, OnOk, IsTrue};
 ghost use Rattle.cht_ids.specs.declared.refs.Ref.TheVariants.{Id as Held};
 ghost use Rattle.task_types.specs.declared.outcome.Outcome.{Outcome as AnyOutcome};
@@ -14,20 +14,20 @@ ghost use Rattle.quad_matrix.specs.Chunks.{arity_of};
 ghost use Rattle.quad_matrix.specs.Matrices.{matrices};
 ghost use Rattle.core_tests.specs.Tried.{state_of, IsTried, GoesOn, Awaits, HasNoChildren, NamesNumber, MayFinish};
 
-use cht_core::{Abandoned, Collected, Core, Idle, Start, Started};
-use cht_history::Event;
+use cht_core::{Abandoned, Collected, Core, Start, Started};
 use cht_ids::{Id, List, Memory, Ref, TaskNo};
 use cht_session::MatLib;
 use quad_matrix::{MatChunk, MatKind, What};
 use std::alloc::Global;
-use std::test::Fail;
 use task_states::TaskStatus;
-use task_types::{Body, Library, Outcome, Place};
+use task_types::{Body, Library, Outcome};
 
-// Why a call was not made: its condition does not hold, or there is not enough memory.
+/// Why a call was not made.
 #[derive(Drop, Debug)]
-enum Refused {
+pub enum Refused {
+    /// Its condition does not hold.
     Condition,
+    /// There is not enough memory.
     Memory,
 }
 
@@ -39,15 +39,15 @@ impl From<Memory> for Refused {
 
 // ---- Before the ask
 
-// A core with one caller and three workers.
-fn open(alloc: Global) -> Result<Core<MatLib>, Refused>
+/// A core with one caller and three workers.
+pub fn open(alloc: Global) -> Result<Core<MatLib>, Refused>
     ensures { IfOk result GoesOn }
 {
     Ok(Core::new(alloc, 1, 3, 0)?)
 }
 
-// The caller registers the number 5.
-fn register(alloc: Global, core: &mut Core<MatLib>) -> Result<Id, Refused>
+/// The caller registers the number 5.
+pub fn register(alloc: Global, core: &mut Core<MatLib>) -> Result<Id, Refused>
     requires { GoesOn core.old }
     ensures { GoesOn core.new }
 {
@@ -55,8 +55,8 @@ fn register(alloc: Global, core: &mut Core<MatLib>) -> Result<Id, Refused>
     Ok(core.register(0, body, &[])?)
 }
 
-// The caller copies an identifier.
-fn copy(core: &mut Core<MatLib>, id: Id) -> Result<Id, Refused>
+/// The caller copies an identifier.
+pub fn copy(core: &mut Core<MatLib>, id: Id) -> Result<Id, Refused>
     requires { GoesOn core.old }
     ensures { GoesOn core.new }
 {
@@ -143,8 +143,8 @@ fn names_number(core: &Core<MatLib>, id: Id) -> bool
     }
 }
 
-// The caller asks for the sum of two numbers.
-fn ask(core: &mut Core<MatLib>, a: Id, b: Id) -> Result<TaskNo, Refused>
+/// The caller asks for the sum of two numbers.
+pub fn ask(core: &mut Core<MatLib>, a: Id, b: Id) -> Result<TaskNo, Refused>
     requires { GoesOn core.old }
     ensures { IfOk result (λ task. Awaits task core.new) }
 {
@@ -177,8 +177,8 @@ fn outcome_of(
     Ok(MatLib::run(alloc, kind, &inputs)?)
 }
 
-// A worker begins a task and executes it. Its outcome has no effect before it is finished.
-fn execute(
+/// A worker begins a task and executes it. Its outcome has no effect before it is finished.
+pub fn execute(
     alloc: Global,
     core: &mut Core<MatLib>,
     w: u32,
@@ -200,8 +200,8 @@ fn execute(
     }
 }
 
-// A worker tries to begin a task that is not Ready. Answers its status.
-fn refusal(core: &mut Core<MatLib>, w: u32, task: TaskNo) -> Result<TaskStatus, Refused>
+/// A worker tries to begin a task that is not Ready. Answers its status.
+pub fn refusal(core: &mut Core<MatLib>, w: u32, task: TaskNo) -> Result<TaskStatus, Refused>
     requires worker { w < 3 }
     requires awaits { Awaits task core.old }
     ensures awaits { Awaits task core.new }
@@ -218,8 +218,8 @@ fn refusal(core: &mut Core<MatLib>, w: u32, task: TaskNo) -> Result<TaskStatus, 
     }
 }
 
-// A worker gives back what it runs.
-fn give_back(core: &mut Core<MatLib>, w: u32, task: TaskNo) -> Result<(), Refused>
+/// A worker gives back what it runs.
+pub fn give_back(core: &mut Core<MatLib>, w: u32, task: TaskNo) -> Result<(), Refused>
     requires worker { w < 3 }
     requires awaits { Awaits task core.old }
     ensures { Awaits task core.new }
@@ -233,8 +233,8 @@ fn give_back(core: &mut Core<MatLib>, w: u32, task: TaskNo) -> Result<(), Refuse
     }
 }
 
-// A worker finishes what it runs. Answers how many tasks became ready.
-fn finish(
+/// A worker finishes what it runs. Answers how many tasks became ready.
+pub fn finish(
     core: &mut Core<MatLib>,
     w: u32,
     task: TaskNo,
@@ -249,8 +249,8 @@ fn finish(
     Ok(ready.len())
 }
 
-// The caller deletes an identifier.
-fn delete(core: &mut Core<MatLib>, id: Id) -> Result<(), Refused>
+/// The caller deletes an identifier.
+pub fn delete(core: &mut Core<MatLib>, id: Id) -> Result<(), Refused>
     requires { IsTried core.old }
     ensures tried { IsTried core.new }
     ensures awaits { (task : ℕ) → Awaits task core.old → Awaits task core.new }
@@ -263,8 +263,8 @@ fn delete(core: &mut Core<MatLib>, id: Id) -> Result<(), Refused>
     Ok(())
 }
 
-// The caller gives up while tasks of it are Running. Answers how many they are.
-fn running(core: &mut Core<MatLib>) -> Result<u32, Refused>
+/// The caller gives up while tasks of it are Running. Answers how many they are.
+pub fn running(core: &mut Core<MatLib>) -> Result<u32, Refused>
     requires { IsTried core.old }
     ensures same { OnOk result (core.new ≡ core.old) }
 {
@@ -274,8 +274,8 @@ fn running(core: &mut Core<MatLib>) -> Result<u32, Refused>
     }
 }
 
-// Whether the output of a task that the caller asked is not there yet.
-fn not_yet(core: &mut Core<MatLib>, task: TaskNo) -> bool
+/// Whether the output of a task that the caller asked is not there yet.
+pub fn not_yet(core: &mut Core<MatLib>, task: TaskNo) -> bool
     requires { Awaits task core.old }
     ensures { IsTrue result → core.new ≡ core.old }
 {
@@ -286,8 +286,8 @@ fn not_yet(core: &mut Core<MatLib>, task: TaskNo) -> bool
     }
 }
 
-// Whether the caller is told that it was stopped.
-fn told_to_stop(core: &mut Core<MatLib>, task: TaskNo) -> bool
+/// Whether the caller is told that it was stopped.
+pub fn told_to_stop(core: &mut Core<MatLib>, task: TaskNo) -> bool
     requires { Awaits task core.old }
     ensures { IsTrue result → core.new ≡ core.old }
 {
@@ -298,8 +298,8 @@ fn told_to_stop(core: &mut Core<MatLib>, task: TaskNo) -> bool
     }
 }
 
-// The caller collects the output of a task.
-fn collect(core: &mut Core<MatLib>, task: TaskNo) -> Result<Ref, Refused>
+/// The caller collects the output of a task.
+pub fn collect(core: &mut Core<MatLib>, task: TaskNo) -> Result<Ref, Refused>
     requires { Awaits task core.old }
     ensures { IsTried core.new }
 {
@@ -310,16 +310,16 @@ fn collect(core: &mut Core<MatLib>, task: TaskNo) -> Result<Ref, Refused>
     }
 }
 
-// A caller that has an ask is stopped.
-fn stop(core: &mut Core<MatLib>, task: TaskNo)
+/// A caller that has an ask is stopped.
+pub fn stop(core: &mut Core<MatLib>, task: TaskNo)
     requires { Awaits task core.old }
     ensures { Awaits task core.new }
 {
     core.stop(0);
 }
 
-// Whether the caller gave up.
-fn gave_up(core: &mut Core<MatLib>) -> bool
+/// Whether the caller gave up.
+pub fn gave_up(core: &mut Core<MatLib>) -> bool
     requires { IsTried core.old }
     ensures { IsTried core.new }
 {
@@ -339,62 +339,18 @@ fn number_held(core: &Core<MatLib>, id: Id) -> Option<i128>
     number_at(core, id)
 }
 
-// ---- The course of a sum
-
-// A number, its copy, and the task of their sum.
-fn ask_sum(alloc: Global, core: &mut Core<MatLib>) -> Result<(Id, Id, TaskNo), Refused>
-    requires { GoesOn core.old }
-    ensures { IfOk result (λ made. Awaits made.2 core.new) }
+/// The number that a reference names, where the caller holds it and it names one.
+pub fn number_named(core: &Core<MatLib>, r: Ref) -> Option<i128>
+    requires { IsTried core.now }
 {
-    let a = register(alloc, core)?;
-    let b = copy(core, a)?;
-    let task = ask(core, a, b)?;
-    Ok((a, b, task))
-}
-
-// Worker 1 begins a task and gives it back, and worker 2 begins it.
-fn begin_again(
-    alloc: Global,
-    core: &mut Core<MatLib>,
-    task: TaskNo,
-) -> Result<Outcome<MatChunk, MatKind>, Refused>
-    requires { Awaits task core.old }
-    ensures awaits { OnOk result (Awaits task core.new) }
-    ensures sound { IfOk result (MayFinish core.new 2) }
-{
-    let _dropped = execute(alloc, core, 1, task)?;
-    give_back(core, 1, task)?;
-    execute(alloc, core, 2, task)
-}
-
-// The caller deletes two identifiers while a task runs.
-fn delete_both(core: &mut Core<MatLib>, a: Id, b: Id) -> Result<(), Refused>
-    requires { IsTried core.old }
-    ensures tried { IsTried core.new }
-    ensures awaits { (task : ℕ) → Awaits task core.old → Awaits task core.new }
-    ensures sound { (w : ℕ) (outcome : AnyOutcome AnyChunk AnyKind) → MayFinish core.old w outcome → MayFinish core.new w outcome }
-{
-    delete(core, a)?;
-    delete(core, b)
-}
-
-// Worker 0 tries to begin a task that runs, and the caller to give up and to collect. Answers what each is told: the status, how many
-// tasks run, and that the output is not there.
-fn try_meanwhile(core: &mut Core<MatLib>, task: TaskNo) -> Result<(TaskStatus, u32, bool), Refused>
-    requires { Awaits task core.old }
-    ensures { OnOk result (core.new ≡ core.old) }
-{
-    let status = refusal(core, 0, task)?;
-    let tasks = running(core)?;
-    if not_yet(core, task) {
-        Ok((status, tasks, true))
-    } else {
-        Err(Refused::Condition)
+    match r {
+        Ref::Null => None,
+        Ref::Id(id) => number_held(core, id),
     }
 }
 
-// The number of an outcome that has no task, and one chunk, a number.
-fn only_number(outcome: &Outcome<MatChunk, MatKind>) -> Option<i128> {
+/// The number of an outcome that has no task, and one chunk, a number.
+pub fn only_number(outcome: &Outcome<MatChunk, MatKind>) -> Option<i128> {
     if outcome.tasks.len() > 0 {
         return None;
     }
@@ -409,233 +365,4 @@ fn only_number(outcome: &Outcome<MatChunk, MatKind>) -> Option<i128> {
         },
         _ => None,
     }
-}
-
-// What a caller gets of a task that worker 2 finishes.
-#[derive(Drop, Debug, PartialEq)]
-struct Collecting {
-    // How many tasks became ready.
-    ready: usize,
-    // Whether the output was held before it was collected.
-    held: bool,
-    // What is told of a task that is finished.
-    status: TaskStatus,
-    // The output, and its number.
-    got: Ref,
-    number: Option<i128>,
-}
-
-// The number that a reference names, where the caller holds it and it names one.
-fn number_named(core: &Core<MatLib>, r: Ref) -> Option<i128>
-    requires { IsTried core.now }
-{
-    match r {
-        Ref::Null => None,
-        Ref::Id(id) => number_held(core, id),
-    }
-}
-
-// Worker 2 finishes a task, and the caller collects its output.
-fn end(
-    core: &mut Core<MatLib>,
-    task: TaskNo,
-    outcome: Outcome<MatChunk, MatKind>,
-    output: Id,
-) -> Result<Collecting, Refused>
-    requires awaits { Awaits task core.old }
-    requires sound { MayFinish core.old 2 outcome }
-    ensures { OnOk result (IsTried core.new) }
-{
-    let ready = finish(core, 2, task, outcome)?;
-    let held = core.holds(0, output);
-    let status = refusal(core, 0, task)?;
-    let got = collect(core, task)?;
-    let number = number_named(core, got);
-    Ok(Collecting {
-        ready,
-        held,
-        status,
-        got,
-        number,
-    })
-}
-
-// What an event is.
-fn name_of(event: &Event<MatKind>) -> &'static str {
-    match event {
-        Event::Register { .. } => "register ",
-        Event::Copy { .. } => "copy ",
-        Event::Delete { .. } => "delete ",
-        Event::Ask { .. } => "ask ",
-        Event::Collect { .. } => "collect ",
-        Event::Abandon { .. } => "abandon ",
-        Event::Stop { .. } => "stop ",
-        Event::Start { .. } => "start ",
-        Event::GiveBack { .. } => "give_back ",
-        Event::Finish { .. } => "finish ",
-    }
-}
-
-// What the events of a core are, in order.
-fn told(alloc: Global, core: Core<MatLib>) -> Result<String, Memory> {
-    let record = core.into_journal();
-    let journal = record.journal();
-    let mut text = String::new(alloc);
-    for i in 0..journal.len() {
-        if let Some(event) = journal.get(i) {
-            text.push_str(name_of(event))?;
-        }
-    }
-    Ok(text)
-}
-
-// What is seen of the course of a sum to its end.
-#[derive(Drop, Debug, PartialEq)]
-struct Course {
-    // The number, its copy, and the task.
-    made: (Id, Id, TaskNo),
-    // The number of the outcome.
-    outcome: Option<i128>,
-    // The task that worker 2 runs.
-    runs: Option<TaskNo>,
-    // What is told while the task runs.
-    meanwhile: (TaskStatus, u32, bool),
-    // Whether an identifier that was deleted is held.
-    held: bool,
-    // What is told at the end, and whether nothing is left.
-    collecting: Collecting,
-    empty: bool,
-}
-
-// The sum is asked, and runs on worker 2.
-fn begin_course(
-    alloc: Global,
-    core: &mut Core<MatLib>,
-) -> Result<((Id, Id, TaskNo), Outcome<MatChunk, MatKind>), Refused>
-    requires { GoesOn core.old }
-    ensures awaits { IfOk result (λ both. Awaits both.0.2 core.new) }
-    ensures sound { IfOk result (λ both. MayFinish core.new 2 both.1) }
-{
-    let made = ask_sum(alloc, core)?;
-    let outcome = begin_again(alloc, core, made.2)?;
-    Ok((made, outcome))
-}
-
-fn run_course(alloc: Global, core: &mut Core<MatLib>, output: Id) -> Result<Course, Refused>
-    requires { GoesOn core.old }
-{
-    let (made, outcome) = begin_course(alloc, core)?;
-    let number = only_number(&outcome);
-    let runs = core.runs(2);
-    delete_both(core, made.0, made.1)?;
-    let held = core.holds(0, made.0);
-    let meanwhile = try_meanwhile(core, made.2)?;
-    let collecting = end(core, made.2, outcome, output)?;
-    delete(core, output)?;
-    Ok(Course {
-        made,
-        outcome: number,
-        runs,
-        meanwhile,
-        held,
-        collecting,
-        empty: core.is_empty(),
-    })
-}
-
-// A sum runs to its end. Answers what is seen of it, and its events.
-fn whole_course(alloc: Global, output: Id) -> Result<(Course, String), Refused> {
-    let mut core = open(alloc)?;
-    let seen = run_course(alloc, &mut core, output)?;
-    Ok((seen, told(alloc, core)?))
-}
-
-// What there is to do after an ask, after a start, and after a stop.
-fn stop_course(alloc: Global, core: &mut Core<MatLib>, task: TaskNo) -> Result<[Idle; 3], Refused>
-    requires { Awaits task core.old }
-    ensures { OnOk result (Awaits task core.new) }
-{
-    let ready = core.idle();
-    let _dropped = execute(alloc, core, 1, task)?;
-    let runs = core.idle();
-    stop(core, task);
-    Ok([ready, runs, core.idle()])
-}
-
-// A caller that was stopped is told so, and gives up once its task was given back. Answers how many tasks ran when it tried before.
-fn give_up(core: &mut Core<MatLib>, task: TaskNo) -> Result<u32, Refused>
-    requires { Awaits task core.old }
-    ensures { OnOk result (IsTried core.new) }
-{
-    if !told_to_stop(core, task) {
-        return Err(Refused::Condition);
-    }
-    let tasks = running(core)?;
-    give_back(core, 1, task)?;
-    if gave_up(core) {
-        Ok(tasks)
-    } else {
-        Err(Refused::Condition)
-    }
-}
-
-// A caller that was stopped gives up. Answers what there was to do, how many tasks ran when it tried, and whether nothing is left once
-// it deleted what it holds.
-fn stopped_course(alloc: Global) -> Result<([Idle; 3], u32, bool), Refused> {
-    let mut core = open(alloc)?;
-    let made = ask_sum(alloc, &mut core)?;
-    let to_do = stop_course(alloc, &mut core, made.2)?;
-    let tasks = give_up(&mut core, made.2)?;
-    delete_both(&mut core, made.0, made.1)?;
-    Ok((to_do, tasks, core.is_empty()))
-}
-
-// ---- Tests
-
-#[test]
-fn a_sum_that_was_given_back_is_finished_and_collected(rt: HostRuntime) -> Result<(), Fail> {
-    let output = Id {
-        owner: 2,
-        number: 7,
-    };
-    let (seen, events) = whole_course(rt.alloc(), output)?;
-    let wanted = Course {
-        made: (
-            Id {
-                owner: 0,
-                number: 2,
-            },
-            Id {
-                owner: 0,
-                number: 3,
-            },
-            4,
-        ),
-        outcome: Some(10),
-        runs: Some(4),
-        meanwhile: (TaskStatus::Running, 1, true),
-        held: false,
-        collecting: Collecting {
-            ready: 0,
-            held: false,
-            status: TaskStatus::Unknown,
-            got: Ref::Id(output),
-            number: Some(10),
-        },
-        empty: true,
-    };
-    assert!(rt; seen == wanted);
-    assert_eq!(rt;
-        events.as_str(),
-        "register copy ask start give_back start delete delete finish collect delete "
-    );
-    Ok(())
-}
-
-#[test]
-fn a_caller_that_was_stopped_gives_up(rt: HostRuntime) -> Result<(), Fail> {
-    let (to_do, tasks, empty) = stopped_course(rt.alloc())?;
-    assert!(rt; to_do == [Idle::Run(4), Idle::Later, Idle::End]);
-    assert!(rt; tasks == 1 && empty);
-    Ok(())
 }

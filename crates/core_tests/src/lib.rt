@@ -4,6 +4,8 @@
 #[cfg(test)]
 mod core_calls;
 #[cfg(test)]
+mod core_courses;
+#[cfg(test)]
 mod engine_calls;
 #[cfg(test)]
 mod journal_calls;

@@ -13,16 +13,16 @@ pub use Rattle.quad_matrix.proofs.Symmetric.{symmetric_by_entries, zeros_symmetr
 pub use Rattle.quad_matrix.proofs.SymmetricJoins.{symmetric_join_of, symmetric_join_peak, symmetric_join_nothing, peak_of_symmetric_join, symmetric_join_canonical, symmetric_join_some, symmetric_join_there, symmetric_join_goal, symmetric_join_fits, fits_symmetric_join, symmetric_join_goal_nothing}
 pub use Rattle.quad_matrix.proofs.SymmetricSums.{symmetric_add_canonical, block_of_symmetric_add, symmetric_add_with_nothing, symmetric_add_nothing_with, symmetric_add_nothing, full_canonical, full_of_nothing}
 -- goals: canonical, the same at each side of the leaves, and by children
-pub use Rattle.quad_matrix.proofs.Lists.{spots_whole, spots_tall, assign_canonical, goal_is_canonical}
+pub use Rattle.quad_matrix.proofs.Lists.{spots_whole, spots_tall, sound_some, assign_canonical, goal_is_canonical}
 pub use Rattle.quad_matrix.proofs.AnySide.{goal_any, assign_nothing, symmetric_assign_nothing, join_goal_nothing}
-pub use Rattle.quad_matrix.proofs.Sums.{add_canonical, fits_join, join_goal, join_fits, child_sum, add_on_children, add_is_join, add_with_nothing, add_nothing_with, add_nothing}
+pub use Rattle.quad_matrix.proofs.Sums.{IsBlock-plus, add_canonical, fits_join, join_goal, join_fits, child_sum, add_on_children, add_is_join, add_with_nothing, add_nothing_with, add_nothing}
 pub use Rattle.quad_matrix.proofs.Numbers.{trace_first, trace_last, trace_fits, trace_on_children, trace_of_nothing, addnum_with_nothing, addnum_nothing_with, addnum_is_number}
 -- products with symmetric blocks: their goals
 pub use Rattle.quad_matrix.proofs.SymmetricProducts.{square_canonical, rank_canonical, transposed_rank_canonical, symmetric_first_canonical, symmetric_second_canonical, square_of_nothing, rank_of_nothing, transposed_rank_of_nothing, symmetric_first_nothing, symmetric_second_nothing}
 -- symmetric goals by children
 pub use Rattle.quad_matrix.proofs.SymmetricChildren.{symmetric_add_on_first, symmetric_add_on_second, symmetric_add_on_third, symmetric_sums_fit_join, symmetric_add_is_join, full_parts_fit_join, full_is_join, symmetric_trace_first, symmetric_trace_last, symmetric_trace_fits, symmetric_trace_on_children}
 -- the three products, over how their factors stand, and transposes
-pub use Rattle.quad_matrix.proofs.Products.{product_goal, product_goal_is, ProductFitsAt, fits_product, product_fits_at, product_canonical, block_of_product, product_nothing_with, product_with_nothing, term_tree, quadrant_tree, first_term_fits, second_term_fits, quadrant_fits, product_is_join, product_fits_by_peaks, product_goal_stands}
+pub use Rattle.quad_matrix.proofs.Products.{IsBlock-product, product_goal, product_goal_is, ProductFitsAt, fits_product, product_fits_at, product_canonical, block_of_product, product_nothing_with, product_with_nothing, term_tree, quadrant_tree, first_term_fits, second_term_fits, quadrant_fits, product_is_join, product_fits_by_peaks, product_goal_stands}
 pub use Rattle.quad_matrix.proofs.Transposes.{transpose_canonical, block_of_transpose, transpose_of_nothing, child_turned, transpose_is_join}
 pub use Rattle.quad_matrix.proofs.ProductWorks.{child_known}
 -- portions of lists of entries

@@ -14,8 +14,7 @@ use Rattle.quad_matrix.specs.declared.kind.What.TheVariants.{Add, Join, SAdd, SJ
 use Rattle.quad_matrix.specs.Blocks.{block_of, canonical, canonical_symmetric, IsCanonical, IsCanonicalSymmetric}
 use Rattle.quad_matrix.specs.Goals.{kind_of, kind_at, goal_at, FitsAt}
 use Rattle.quad_matrix.specs.Matrices.{matrices}
-use Rattle.quad_matrix.proofs.Sums.{IsBlock-plus}
-use Rattle.quad_matrix.proofs.ForOthers.{block_of_canonical, canonical_of_block, block_of_symmetric, symmetric_of_block, goal_any, join_goal, fits_join, symmetric_join_goal, fits_symmetric_join}
+use Rattle.quad_matrix.proofs.ForOthers.{IsBlock-plus, block_of_canonical, canonical_of_block, block_of_symmetric, symmetric_of_block, goal_any, join_goal, fits_join, symmetric_join_goal, fits_symmetric_join}
 use Rattle.matrix_tasks.proofs.ForOthers.{join_gives}
 use Rattle.symm_tasks.proofs.ByPlan.{symmetric_join_gives, add_is_sum, symmetric_add_is_sum, pair_gives}
 

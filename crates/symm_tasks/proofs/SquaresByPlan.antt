@@ -23,8 +23,7 @@ use Rattle.quad_matrix.specs.Goals.{kind_of, kind_at, goal_at, FitsAt}
 use Rattle.quad_matrix.specs.Matrices.{matrices}
 use Rattle.quad_matrix.specs.Products.{Neither, First, Second}
 use Rattle.quad_matrix.specs.Plans.{plan_of, shapes_of}
-use Rattle.quad_matrix.proofs.Products.{IsBlock-product}
-use Rattle.quad_matrix.proofs.ForOthers.{child_canonical, block_of_quadrants, symmetric_children, block_of_symmetric_children, square_of_nothing, rank_of_nothing, transposed_rank_of_nothing}
+use Rattle.quad_matrix.proofs.ForOthers.{IsBlock-product, child_canonical, block_of_quadrants, symmetric_children, block_of_symmetric_children, square_of_nothing, rank_of_nothing, transposed_rank_of_nothing}
 use Rattle.matrix_tasks.proofs.ForOthers.{shapes_open, parts_below, ready_is, term_absent}
 use Rattle.symm_tasks.proofs.NullInputs.{factor_missing}
 use Rattle.symm_tasks.proofs.ByPlan.{child_missing}

@@ -1,6 +1,6 @@
 use Rattle.std.proofs.Common.{sym, subst}
 use Rattle.core_tests.specs.Tried.{MayFinish}
-use Rattle.core_tests.proofs.core_calls.run_course.Goals as goal
+use Rattle.core_tests.proofs.core_courses.run_course.Goals as goal
 
 pub end-requires-clause-sound : goal.end-requires-clause-sound
 end-requires-clause-sound c =
