@@ -1,4 +1,8 @@
 pub mod ListedEntries
+pub mod MirroredEntries
+pub mod FormTrees
+pub mod FormVerbs
+pub mod FormLists
 pub mod Identifiers
 pub mod Bindings
 pub mod Order

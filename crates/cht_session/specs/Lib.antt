@@ -8,3 +8,4 @@ pub mod Given
 pub mod Running
 pub mod Numbers
 pub mod Forms
+pub mod Mirrored
