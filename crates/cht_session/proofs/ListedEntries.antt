@@ -21,8 +21,7 @@ use Rattle.chunk_codec.specs.Spots.{stands_before, spots_rise, IsSpot}
 use Rattle.quad_matrix.specs.Spots.{spot_value, block_of_spots}
 use Rattle.quad_matrix.proofs.ForOthers.{peak-zeros}
 use Rattle.cht_script.specs.Reading.{IsGoodMarket}
-use Rattle.cht_session.specs.Listed.{most_listed, spot_of, IsCounted, HasSmallValue}
-use Rattle.cht_session.specs.Mirrored.{spot_in}
+use Rattle.cht_session.specs.Listed.{most_listed, spot_of, spot_in, IsCounted, HasSmallValue}
 
 -- ---- The cells of a made matrix
 

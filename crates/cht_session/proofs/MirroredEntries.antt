@@ -26,8 +26,7 @@ use Rattle.quad_matrix.proofs.ForOthers.{symmetric_by_entries}
 use Rattle.cht_script.specs.Statements.{is_symmetric}
 use Rattle.cht_script.specs.Reading.{IsGoodMarket, matrix_of_market}
 use Rattle.cht_session.specs.Forms.{IsListIn}
-use Rattle.cht_session.specs.Listed.{most_listed, IsCounted, HasSmallValue}
-use Rattle.cht_session.specs.Mirrored.{mirrored_spot, spot_in, place_of, ArePutInOrder}
+use Rattle.cht_session.specs.Listed.{most_listed, mirrored_spot, spot_in, IsCounted, HasSmallValue, place_of, ArePutInOrder}
 use Rattle.cht_session.proofs.ListedEntries.{AreFrom, entries_from, entries_counted, value_outside, entry_anywhere, moved_spots, moved_rise, block_of_moved, no_entries, length_moved, listed_side, market_few}
 
 -- ---- Entries of one place

@@ -8,4 +8,3 @@ pub mod Given
 pub mod Running
 pub mod Numbers
 pub mod Forms
-pub mod Mirrored

@@ -3,8 +3,7 @@ ghost use Rattle.chunk_codec.specs.Spots.{side_of};
 ghost use Rattle.cht_script.specs.Reading.{IsGoodMarket, matrix_of_market};
 ghost use Rattle.cht_script.specs.Statements.{is_symmetric as is_symmetric_form};
 ghost use Rattle.cht_session.specs.Forms.{IsListIn};
-ghost use Rattle.cht_session.specs.Listed.{most_listed, IsCounted, HasSmallValue};
-ghost use Rattle.cht_session.specs.Mirrored.{spot_in, place_of, ArePutInOrder};
+ghost use Rattle.cht_session.specs.Listed.{most_listed, spot_in, IsCounted, HasSmallValue, place_of, ArePutInOrder};
 
 use cht_ids::{List, Memory};
 use mm_text::{Entry, Form, Market};

@@ -1,7 +1,6 @@
 use Rattle.std.proofs.Common.{sym, ap, ◌∙◌, subst, All, map, length}
 use Rattle.std.proofs.lemmas.Bool.{eqb-true, eqb-false}
-use Rattle.cht_session.specs.Listed.{IsCounted}
-use Rattle.cht_session.specs.Mirrored.{spot_in, ArePutInOrder}
+use Rattle.cht_session.specs.Listed.{spot_in, IsCounted, ArePutInOrder}
 use Rattle.cht_session.proofs.ListedEntries.{market_counted}
 use Rattle.cht_session.proofs.MirroredEntries.{nothing_listed, market_listed}
 use Rattle.cht_session.proofs.listed.list_of.Goals as goal

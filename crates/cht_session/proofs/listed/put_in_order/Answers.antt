@@ -1,6 +1,6 @@
 use Rattle.std.proofs.Common.{sym, subst, rules}
 use Rattle.std.proofs.lemmas.List.Sorted.{IsNonDecreasingBy-from_sort_by_key}
-use Rattle.cht_session.specs.Mirrored.{place_of, ArePutInOrder}
+use Rattle.cht_session.specs.Listed.{place_of, ArePutInOrder}
 use Rattle.cht_session.proofs.listed.put_in_order.Goals as goal
 
 pub returns-in-Symmetric : goal.returns-in-Symmetric

@@ -1,6 +1,5 @@
 use Rattle.std.proofs.Common.{◌≡◌, map, take, All, length, vec_len, vec_capacity}
-use Rattle.cht_session.specs.Listed.{HasSmallValue}
-use Rattle.cht_session.specs.Mirrored.{spot_in}
+use Rattle.cht_session.specs.Listed.{spot_in, HasSmallValue}
 use Rattle.cht_session.proofs.listed.spots_of.Given as goal
 
 abbrev pub invariant-loop-entry : goal.invariant-loop-entry
