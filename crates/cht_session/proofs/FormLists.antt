@@ -11,8 +11,8 @@ use Rattle.quad_matrix.specs.Spots.{block_of_spots, block_listed}
 use Rattle.quad_matrix.specs.Blocks.{block_of, canonical, alone}
 use Rattle.quad_matrix.specs.Goals.{kind_of, goal_at, goal_of, FitsAt}
 use Rattle.quad_matrix.specs.Works.{work_of}
-use Rattle.quad_matrix.proofs.Lists.{sound_some, block_of_list, list_symmetric, symmetric_assign_canonical}
-use Rattle.quad_matrix.proofs.ForOthers.{block_of_canonical, block_of_symmetric, spots_whole, spots_tall, assign_canonical, goal_any}
+use Rattle.quad_matrix.proofs.Lists.{sound_some, block_of_list, list_symmetric}
+use Rattle.quad_matrix.proofs.ForOthers.{block_of_canonical, block_of_symmetric, spots_whole, spots_tall, goal_is_canonical, goal_any}
 use Rattle.mm_text.specs.declared.market.Form.{Form}
 use Rattle.mm_text.specs.declared.market.Form.TheVariants.{General, Symmetric}
 use Rattle.cht_script.specs.Statements.{is_symmetric}
@@ -33,7 +33,7 @@ module _ (b h : ℕ) where
       let fits : FitsAt b Assign h (list ∷ []) = (sound, refl, refl, refl, refl) in (
         fits,
         record {
-          canonical = assign_canonical b h list fits;
+          canonical = goal_is_canonical b Assign h (list ∷ []) fits;
           block =
               ap (λ mirrored. block_of b h (canonical b h (block_listed mirrored (side_of b h) entries.list))) sound.symmetric
               ∙ block_of_canonical b h (block_of_spots (side_of b h) entries.list) (spots_whole (side_of b h) entries.list) (spots_tall (side_of b h) entries.list) refl
@@ -45,7 +45,7 @@ module _ (b h : ℕ) where
       let fits : FitsAt b SAssign h (list ∷ []) = (sound, refl, refl, refl, refl) in (
         fits,
         record {
-          canonical = symmetric_assign_canonical b h list fits;
+          canonical = goal_is_canonical b SAssign h (list ∷ []) fits;
           block =
               block_of_symmetric b h (block_of b h list) (block_of_list b h true list fits) (list_symmetric b h list fits)
               ∙ ap (λ mirrored. block_listed mirrored (side_of b h) entries.list) sound.symmetric
