@@ -1,8 +1,5 @@
 pub mod ListedEntries
 pub mod MirroredEntries
-pub mod FormTrees
-pub mod FormVerbs
-pub mod FormLists
 pub mod Identifiers
 pub mod Bindings
 pub mod Order
@@ -10,7 +7,10 @@ pub mod Kept
 pub mod Asked
 pub mod Assigned
 pub mod Completed
-pub mod Matrices
+pub mod FormTrees
+pub mod FormLists
+pub mod FormVerbs
+pub mod Tests
 pub mod Shown
 pub mod Effects
 pub mod Doing
