@@ -1,13 +1,11 @@
 -- The shapes that were told of names agree with the matrices that they mean, as a name is bound or deleted.
 use Rattle.std.proofs.Common.{◌≡◌, ℕ, ◌≤◌, Bool, true, false, not, cond, List, [], ◌∷◌, ◌++◌, Option, None, Some, refl, sym, ap, ap₂, ◌∙◌, subst, subst₂, inl, inr, append-nil, arith}
-use Rattle.std.specs.Prelude.{◌||◌, ◌&&◌, is_none}
+use Rattle.std.specs.Prelude.{◌||◌, is_none}
 use Rattle.std.specs.List.{list_any, list_all}
 use Rattle.std.specs.Str.{bytes_eq}
 use Rattle.std.proofs.lemmas.Bool.{cases_Bool, false≢true, true≢false}
-use Rattle.dense_def.specs.Matrix.{Matrix, times, tmul_of, mult_of, plus}
-use Rattle.dense_def.proofs.Operations.{height-plus, height-times, height-tmul_of, height-mult_of}
+use Rattle.dense_def.specs.Matrix.{Matrix}
 use Rattle.mm_text.specs.declared.market.Form.{Form}
-use Rattle.mm_text.specs.declared.market.Form.TheVariants as forms
 use Rattle.mm_text.specs.declared.market.Market.{Market}
 use Rattle.mm_text.specs.Faults.{or_else}
 use Rattle.cht_script.specs.declared.checked.Shape.{Shape}
@@ -17,22 +15,20 @@ use Rattle.cht_script.specs.declared.script.Statement.TheVariants as statements
 use Rattle.cht_script.specs.declared.script.Verb.{Verb}
 use Rattle.cht_script.specs.declared.script.Verb.TheVariants as verb
 use Rattle.cht_script.specs.Newest.{newest}
-use Rattle.cht_script.specs.Statements.{Act, names_after, is_general, general}
+use Rattle.cht_script.specs.Statements.{Act, names_after, shape_bound}
 use Rattle.cht_script.specs.Verdict.{NamedShape, with_shape, has_name, is_known, shape_found, shape_in, is_among}
-use Rattle.cht_script.specs.Meaning.{Known, Deed, Acts as Does, is_named, matrix_found, matrix_named, form_named, named_matrix, without_name, known_by}
+use Rattle.cht_script.specs.Meaning.{Known, Deed, Acts as Does, is_named, matrix_found, form_found, matrix_named, form_named, named_matrix, matrix_given, form_given, without_name, known_by}
 use Rattle.cht_script.specs.Reading.{deed_of, names_of, name_bytes, IsFormed, IsGoodMarket, matrix_of_market}
 use Rattle.cht_script.specs.Checking.{said_by, shape_listed, known_behind, deleted_behind, IsSound}
-use Rattle.cht_script.specs.NotRun.{is_run_verb, is_run}
 use Rattle.cht_script.proofs.Newest.{any_newest, newest-push}
-use Rattle.cht_session.specs.Running.{HasShape, Agree}
+use Rattle.cht_session.specs.Forms.{shape_of}
+use Rattle.cht_session.specs.Running.{shape_named, Agree}
+use Rattle.cht_session.proofs.FormVerbs.{given_shape}
+use Rattle.cht_session.proofs.Tests.{both}
 use Rattle.cht_session.proofs.Bindings.{bytes_same}
 use Rattle.cht_session.proofs.Effects.{one_name, two_names, three_names}
 
 -- ---- Tests
-
-pub both : (a b : Bool) → a && b ≡ true → (a ≡ true) × (b ≡ true)
-both true b e = (refl, e)
-both false b e = absurd (false≢true e)
 
 pub neither : (a b : Bool) → a || b ≡ false → (a ≡ false) × (b ≡ false)
 neither true b e = absurd (true≢false e)
@@ -74,9 +70,13 @@ newest_without (x ∷ xs) name other =
 
 -- ---- The shapes that were told
 
+-- the shape and form of what was found
+abbrev known_shape : Option Known → Shape
+known_shape o = shape_of (form_found o) (matrix_found o)
+
 -- of one more name
 pub agree_bound : (known : List Known) (shapes : List NamedShape) (deleted : List (List ℕ)) (c : List ℕ) (form : Form) (m : Matrix) (s : Shape)
-    → Agree known shapes deleted → HasShape m s
+    → Agree known shapes deleted → shape_of form m ≡ s
     → Agree (known ++ named_matrix form m c ∷ []) (shapes ++ with_shape s c ∷ []) (deleted ++ [])
 agree_bound known shapes deleted c form m s agree has = λ name bound left.
     let one : Known = named_matrix form m c in
@@ -85,16 +85,15 @@ agree_bound known shapes deleted c form m s agree has = λ name bound left.
     let in_shapes = newest-push (has_name name) shapes told in
     elim (cases_Bool (bytes_eq c name)) [
       | inl here ↦
-          let k = ap matrix_found (in_known ∙ ap (λ b. cond b (Some one) (newest (is_named name) known)) here) in
+          let k = ap known_shape (in_known ∙ ap (λ b. cond b (Some one) (newest (is_named name) known)) here) in
           let t = ap shape_found (in_shapes ∙ ap (λ b. cond b (Some told) (newest (has_name name) shapes)) here) in
-          subst₂ HasShape (sym k) (sym t) has
+          k ∙ has ∙ sym t
       | inr other ↦
           let from_known = in_known ∙ ap (λ b. cond b (Some one) (newest (is_named name) known)) other in
           let from_shapes = in_shapes ∙ ap (λ b. cond b (Some told) (newest (has_name name) shapes)) other in
           let was : is_known shapes name ≡ true =
           any_newest (has_name name) shapes ∙ ap (λ o. not (is_none o)) (sym from_shapes) ∙ sym (any_newest (has_name name) (shapes ++ told ∷ [])) ∙ bound in
-          subst₂ HasShape (sym (ap matrix_found from_known)) (sym (ap shape_found from_shapes))
-          (agree name was (subst (λ ds. is_among ds name ≡ false) (append-nil deleted) left))
+          ap known_shape from_known ∙ agree name was (subst (λ ds. is_among ds name ≡ false) (append-nil deleted) left) ∙ sym (ap shape_found from_shapes)
     ]
 
 -- of the same names
@@ -118,7 +117,7 @@ agree_deleted known shapes deleted a agree =
     subst₂ (λ ks ss. Agree ks ss (deleted ++ a ∷ [])) (sym (append-nil (without_name known a))) (sym (append-nil shapes)) (λ name bound left.
     let apart = any_push (λ other. bytes_eq other name) deleted a left in
     let same = newest_without known a name ∙ ap (λ b. cond b None (newest (is_named name) known)) apart.1 in
-    subst (λ m. HasShape m (shape_in shapes name)) (sym (ap matrix_found same)) (agree name bound apart.0))
+    ap known_shape same ∙ agree name bound apart.0)
 
 pub agree_nothing : Agree [] [] []
 agree_nothing = λ name bound left. absurd (false≢true bound)
@@ -128,13 +127,13 @@ agree_nothing = λ name bound left. absurd (false≢true bound)
 -- its only one
 pub one_input : (known : List Known) (shapes : List NamedShape) (deleted : List (List ℕ)) (a : List ℕ) → Agree known shapes deleted
     → list_all (is_known shapes) (a ∷ []) ≡ true → list_any (is_among deleted) (a ∷ []) ≡ false
-    → HasShape (matrix_named known a) (shape_in shapes a)
+    → shape_named known a ≡ shape_in shapes a
 one_input known shapes deleted a agree bound left = agree a (both (is_known shapes a) true bound).0 (neither (is_among deleted a) false left).0
 
 -- the first and the second of two
 pub two_inputs : (known : List Known) (shapes : List NamedShape) (deleted : List (List ℕ)) (a b : List ℕ) → Agree known shapes deleted
     → list_all (is_known shapes) (a ∷ b ∷ []) ≡ true → list_any (is_among deleted) (a ∷ b ∷ []) ≡ false
-    → HasShape (matrix_named known a) (shape_in shapes a) × HasShape (matrix_named known b) (shape_in shapes b)
+    → (shape_named known a ≡ shape_in shapes a) × (shape_named known b ≡ shape_in shapes b)
 two_inputs known shapes deleted a b agree bound left =
     let k = both (is_known shapes a) (list_all (is_known shapes) (b ∷ [])) bound in
     let l = neither (is_among deleted a) (list_any (is_among deleted) (b ∷ [])) left in
@@ -152,68 +151,67 @@ module _ (known : List Known) (shapes : List NamedShape) (deleted : List (List �
       agree_bound known shapes deleted c (form_named known a) (matrix_named known a) (shape_in shapes a) agree
       (one_input known shapes deleted a agree sound.bound sound.left)
 
-  add_behind : (c a b : List ℕ) → IsSound shapes deleted (Act verb.Add (c ∷ a ∷ b ∷ [])) → AgreeBehind known shapes deleted (Does line verb.Add (c ∷ a ∷ b ∷ []))
-  add_behind c a b sound =
-      let m = matrix_named known a in
-      let n = matrix_named known b in
-      let given = two_inputs known shapes deleted a b agree sound.bound sound.left in
-      agree_bound known shapes deleted c (form_named known a) (plus m n) (shape_in shapes a) agree
-      (record { rows = height-plus m n ∙ given.0.rows; columns = given.0.columns })
+  -- the shape of what a verb gives
+  given_by : (verb : Verb) (a b : List ℕ) (s t : Shape) → shape_named known a ≡ s → shape_named known b ≡ t
+      → shape_of (form_given verb (form_named known a)) (matrix_given verb (matrix_named known a) (matrix_named known b)) ≡ shape_bound verb s t
+  given_by verb a b s t x y =
+      given_shape verb (form_named known a) (form_named known b) (matrix_named known a) (matrix_named known b) ∙ ap₂ (shape_bound verb) x y
 
-  mul_behind : (c a b : List ℕ) → IsSound shapes deleted (Act verb.Mul (c ∷ a ∷ b ∷ [])) → AgreeBehind known shapes deleted (Does line verb.Mul (c ∷ a ∷ b ∷ []))
-  mul_behind c a b sound =
-      let m = matrix_named known a in
-      let n = matrix_named known b in
-      let given = two_inputs known shapes deleted a b agree sound.bound sound.left in
-      agree_bound known shapes deleted c forms.General (times m n) (general (shape_in shapes a).rows (shape_in shapes b).columns) agree
-      (record { rows = height-times m n ∙ given.0.rows; columns = given.1.columns })
+  -- of two names
+  pair_behind : (verb : Verb) (c a b : List ℕ) → list_all (is_known shapes) (a ∷ b ∷ []) ≡ true → list_any (is_among deleted) (a ∷ b ∷ []) ≡ false
+      → Agree (known ++ named_matrix (form_given verb (form_named known a)) (matrix_given verb (matrix_named known a) (matrix_named known b)) c ∷ [])
+      (shapes ++ with_shape (shape_bound verb (shape_in shapes a) (shape_in shapes b)) c ∷ []) (deleted ++ [])
+  pair_behind verb c a b bound left =
+      let given = two_inputs known shapes deleted a b agree bound left in
+      agree_bound known shapes deleted c (form_given verb (form_named known a)) (matrix_given verb (matrix_named known a) (matrix_named known b))
+      (shape_bound verb (shape_in shapes a) (shape_in shapes b)) agree (given_by verb a b (shape_in shapes a) (shape_in shapes b) given.0 given.1)
 
-  tmul_behind : (c a b : List ℕ) → IsSound shapes deleted (Act verb.TMul (c ∷ a ∷ b ∷ [])) → AgreeBehind known shapes deleted (Does line verb.TMul (c ∷ a ∷ b ∷ []))
-  tmul_behind c a b sound =
-      let m = matrix_named known a in
-      let n = matrix_named known b in
-      let given = two_inputs known shapes deleted a b agree sound.bound sound.left in
-      agree_bound known shapes deleted c forms.General (tmul_of m n) (general (shape_in shapes a).columns (shape_in shapes b).columns) agree
-      (record { rows = height-tmul_of m n ∙ given.0.columns; columns = given.1.columns })
-
-  mult_behind : (c a b : List ℕ) → IsSound shapes deleted (Act verb.MulT (c ∷ a ∷ b ∷ [])) → AgreeBehind known shapes deleted (Does line verb.MulT (c ∷ a ∷ b ∷ []))
-  mult_behind c a b sound =
-      let m = matrix_named known a in
-      let n = matrix_named known b in
-      let given = two_inputs known shapes deleted a b agree sound.bound sound.left in
-      agree_bound known shapes deleted c forms.General (mult_of m n) (general (shape_in shapes a).rows (shape_in shapes b).rows) agree
-      (record { rows = height-mult_of m n ∙ given.0.rows; columns = given.1.rows })
+  -- of one
+  single_behind : (verb : Verb) (c a : List ℕ) → list_all (is_known shapes) (a ∷ []) ≡ true → list_any (is_among deleted) (a ∷ []) ≡ false
+      → Agree (known ++ named_matrix (form_given verb (form_named known a)) (matrix_given verb (matrix_named known a) (matrix_named known a)) c ∷ [])
+      (shapes ++ with_shape (shape_bound verb (shape_in shapes a) (shape_in shapes a)) c ∷ []) (deleted ++ [])
+  single_behind verb c a bound left =
+      let given = one_input known shapes deleted a agree bound left in
+      agree_bound known shapes deleted c (form_given verb (form_named known a)) (matrix_given verb (matrix_named known a) (matrix_named known a))
+      (shape_bound verb (shape_in shapes a) (shape_in shapes a)) agree (given_by verb a a (shape_in shapes a) (shape_in shapes a) given given)
 
   -- a statement with a verb whose names are a list
   abbrev Behind : Verb → List (List ℕ) → Type 0
   Behind verb ns = IsSound shapes deleted (Act verb ns) → AgreeBehind known shapes deleted (Does line verb ns)
 
-  act_behind : (verb : Verb) (names : Names) → names.count ≡ names_after verb → is_run_verb verb ≡ true → Behind verb (names_of names)
-  act_behind verb.Copy names count run = subst (Behind verb.Copy) (sym (two_names names count)) (copy_behind (name_bytes names.first) (name_bytes names.second))
-  act_behind verb.Add names count run =
-      subst (Behind verb.Add) (sym (three_names names count)) (add_behind (name_bytes names.first) (name_bytes names.second) (name_bytes names.third))
-  act_behind verb.Mul names count run =
-      subst (Behind verb.Mul) (sym (three_names names count)) (mul_behind (name_bytes names.first) (name_bytes names.second) (name_bytes names.third))
-  act_behind verb.TMul names count run =
-      subst (Behind verb.TMul) (sym (three_names names count)) (tmul_behind (name_bytes names.first) (name_bytes names.second) (name_bytes names.third))
-  act_behind verb.MulT names count run =
-      subst (Behind verb.MulT) (sym (three_names names count)) (mult_behind (name_bytes names.first) (name_bytes names.second) (name_bytes names.third))
-  act_behind verb.Square names count run = absurd cc
-  act_behind verb.Full names count run = absurd cc
-  act_behind verb.Trace names count run = subst (Behind verb.Trace) (sym (one_name names count)) (λ sound. agree_same known shapes deleted agree)
-  act_behind verb.Count names count run = subst (Behind verb.Count) (sym (one_name names count)) (λ sound. agree_same known shapes deleted agree)
-  act_behind verb.Print names count run = subst (Behind verb.Print) (sym (one_name names count)) (λ sound. agree_same known shapes deleted agree)
-  act_behind verb.Delete names count run =
+  act_behind : (verb : Verb) (names : Names) → names.count ≡ names_after verb → Behind verb (names_of names)
+  act_behind verb.Copy names count = subst (Behind verb.Copy) (sym (two_names names count)) (copy_behind (name_bytes names.first) (name_bytes names.second))
+  act_behind verb.Add names count =
+      subst (Behind verb.Add) (sym (three_names names count))
+      (λ sound. pair_behind verb.Add (name_bytes names.first) (name_bytes names.second) (name_bytes names.third) sound.bound sound.left)
+  act_behind verb.Mul names count =
+      subst (Behind verb.Mul) (sym (three_names names count))
+      (λ sound. pair_behind verb.Mul (name_bytes names.first) (name_bytes names.second) (name_bytes names.third) sound.bound sound.left)
+  act_behind verb.TMul names count =
+      subst (Behind verb.TMul) (sym (three_names names count))
+      (λ sound. pair_behind verb.TMul (name_bytes names.first) (name_bytes names.second) (name_bytes names.third) sound.bound sound.left)
+  act_behind verb.MulT names count =
+      subst (Behind verb.MulT) (sym (three_names names count))
+      (λ sound. pair_behind verb.MulT (name_bytes names.first) (name_bytes names.second) (name_bytes names.third) sound.bound sound.left)
+  act_behind verb.Square names count =
+      subst (Behind verb.Square) (sym (two_names names count))
+      (λ sound. single_behind verb.Square (name_bytes names.first) (name_bytes names.second) sound.bound sound.left)
+  act_behind verb.Full names count =
+      subst (Behind verb.Full) (sym (two_names names count))
+      (λ sound. single_behind verb.Full (name_bytes names.first) (name_bytes names.second) sound.bound sound.left)
+  act_behind verb.Trace names count = subst (Behind verb.Trace) (sym (one_name names count)) (λ sound. agree_same known shapes deleted agree)
+  act_behind verb.Count names count = subst (Behind verb.Count) (sym (one_name names count)) (λ sound. agree_same known shapes deleted agree)
+  act_behind verb.Print names count = subst (Behind verb.Print) (sym (one_name names count)) (λ sound. agree_same known shapes deleted agree)
+  act_behind verb.Delete names count =
       subst (Behind verb.Delete) (sym (one_name names count)) (λ sound. agree_deleted known shapes deleted (name_bytes names.first) agree)
 
 pub agree_next : (grid : ℕ) (known : List Known) (shapes : List NamedShape) (deleted : List (List ℕ)) (one : statement.Statement)
-    → IsFormed grid one → is_run (deed_of one) ≡ true → IsSound shapes deleted (said_by (deed_of one)) → Agree known shapes deleted
+    → IsFormed grid one → IsSound shapes deleted (said_by (deed_of one)) → Agree known shapes deleted
     → AgreeBehind known shapes deleted (deed_of one)
-agree_next grid known shapes deleted (statements.Market line to market) formed run sound agree =
-    agree_bound known shapes deleted (name_bytes to) market.form (matrix_of_market market) (shape_listed (deed_of (statements.Market line to market))) agree
-    (record { rows = refl; columns = refl })
-agree_next grid known shapes deleted (statements.Act line verb names) formed run sound agree =
-    act_behind known shapes deleted agree line verb names formed.0 run sound
+agree_next grid known shapes deleted (statements.Market line to market) formed sound agree =
+    agree_bound known shapes deleted (name_bytes to) market.form (matrix_of_market market) (shape_listed (deed_of (statements.Market line to market))) agree refl
+agree_next grid known shapes deleted (statements.Act line verb names) formed sound agree =
+    act_behind known shapes deleted agree line verb names formed.0 sound
 
 pub wider_market : (grid side : ℕ) → grid ≤ side → (market : Market) → IsGoodMarket grid market → IsGoodMarket side market
 wider_market grid side le market good = record {
@@ -222,7 +220,3 @@ wider_market grid side le market good = record {
   square = good.square;
   entries = good.entries;
 }
-
-pub general_form : (form : Form) → is_general form ≡ true → form ≡ forms.General
-general_form forms.General e = refl
-general_form forms.Symmetric e = absurd cc

@@ -12,13 +12,12 @@ use Rattle.cht_engine.specs.Seen.{Seen, MayMention, tree_named, tree_of_named}
 use Rattle.cht_engine.specs.Calls.{trees_named, deleted, IsOutput, with_output, IsAsked, IsGivenUp}
 use Rattle.quad_matrix.specs.declared.chunk.MatChunk.{MatChunk}
 use Rattle.quad_matrix.specs.declared.kind.MatKind.{MatKind}
-use Rattle.quad_matrix.specs.declared.kind.What.TheVariants.{Trace}
 use Rattle.quad_matrix.specs.Blocks.{number_of}
-use Rattle.quad_matrix.specs.Goals.{kind_of, goal_of}
+use Rattle.quad_matrix.specs.Goals.{goal_of}
 use Rattle.quad_matrix.specs.Matrices.{matrices}
 use Rattle.cht_session.specs.Program.{deletes}
 use Rattle.cht_session.specs.Held.{IsNameOf, without}
-use Rattle.cht_session.specs.Given.{IsGiven, IsAnswered, IsUndone, IsTraced, Traces}
+use Rattle.cht_session.specs.Given.{IsGiven, IsAnswered, IsUndone, Answers, IsTraced, Traces}
 use Rattle.cht_session.proofs.Identifiers.{given_here, named_is_held}
 
 -- ---- Outputs
@@ -50,6 +49,12 @@ asked_answered before after kind inputs r (output, task, is) =
 
 pub asked_undone : (before after : Seen MatChunk MatKind) (kind : MatKind) (inputs : List Ref) → IsGivenUp before after kind inputs → IsUndone before after
 asked_undone before after kind inputs is = record { caller = is.caller; asks = is.asks; names = is.names }
+
+-- the answer for a task that was asked
+pub asked_answers : (before after : Seen MatChunk MatKind) (kind : MatKind) (inputs : List Ref) (answer : Result Ref Memory)
+    → IsAsked matrices before after kind inputs answer → Answers before after kind inputs answer
+asked_answers before after kind inputs (Ok r) is = asked_answered before after kind inputs r is
+asked_answers before after kind inputs (Err memory) is = asked_undone before after kind inputs is
 
 -- nothing was done
 pub nothing_done : (before after : Seen MatChunk MatKind) → before.asks ≡ map.empty → after ≡ before → IsUndone before after
@@ -89,17 +94,17 @@ given_seen before after tree r is = named_seen after tree r (given_here before.n
 
 -- ---- A trace
 
-pub traced_done : (before asked after : Seen MatChunk MatKind) (height : ℕ) (at r : Ref) (number : Result ℤ Memory)
+pub traced_done : (before asked after : Seen MatChunk MatKind) (kind : MatKind) (at r : Ref) (number : Result ℤ Memory)
     → before.asks ≡ map.empty
-    → IsAnswered before asked (kind_of Trace height) (at ∷ []) r
+    → IsAnswered before asked kind (at ∷ []) r
     → IfOk number (λ n. n ≡ number_of (tree_named asked r))
     → after ≡ deleted asked r
-    → Traces before after height at number
-traced_done before asked after height at r (Ok number) idle is read end =
-    let goal = goal_of (kind_of Trace height) (tree_named before at ∷ []) in
+    → Traces before after kind at number
+traced_done before asked after kind at r (Ok number) idle is read end =
+    let goal = goal_of kind (tree_named before at ∷ []) in
     let gone = deleted_is asked r in
-    let events = Ask before.caller is.task (kind_of Trace height) (at ∷ []) ∷ Collect before.caller is.task r ∷ [] in
-    subst (λ (after : Seen MatChunk MatKind). IsTraced before after height at number) (sym end) (record {
+    let events = Ask before.caller is.task kind (at ∷ []) ∷ Collect before.caller is.task r ∷ [] in
+    subst (λ (after : Seen MatChunk MatKind). IsTraced before after kind at number) (sym end) (record {
       caller = gone.caller ∙ is.caller;
       asks = gone.asks ∙ is.asks;
       names = gone.names ∙ (given_here before.names asked.names goal r is.names).1;
@@ -114,8 +119,8 @@ traced_done before asked after height at r (Ok number) idle is read end =
           ∙ ap (λ (es : List (Event MatKind)). es ++ deletes before.caller (r ∷ [])) is.told
           ∙ append_assoc before.events events (deletes before.caller (r ∷ []));
     })
-traced_done before asked after height at r (Err memory) idle is read end =
-    let goal = goal_of (kind_of Trace height) (tree_named before at ∷ []) in
+traced_done before asked after kind at r (Err memory) idle is read end =
+    let goal = goal_of kind (tree_named before at ∷ []) in
     let gone = deleted_is asked r in
     subst (λ (after : Seen MatChunk MatKind). IsUndone before after) (sym end) (record {
       caller = gone.caller ∙ is.caller;

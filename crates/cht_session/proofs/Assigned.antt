@@ -16,28 +16,28 @@ use Rattle.quad_matrix.specs.declared.chunk.MatChunk.{MatChunk}
 use Rattle.quad_matrix.specs.declared.chunk.MatChunk.TheVariants as chunk
 use Rattle.quad_matrix.specs.declared.chunk.Entries.{Entries}
 use Rattle.quad_matrix.specs.declared.kind.MatKind.{MatKind}
-use Rattle.quad_matrix.specs.declared.kind.What.TheVariants.{Assign}
+use Rattle.quad_matrix.specs.declared.kind.What.TheVariants.{Assign, SAssign}
+use Rattle.mm_text.specs.declared.market.Form.{Form}
+use Rattle.mm_text.specs.declared.market.Form.TheVariants.{General, Symmetric}
+use Rattle.cht_script.specs.Statements.{is_symmetric}
 use Rattle.chunk_codec.specs.Spots.{side_of}
 use Rattle.quad_matrix.specs.Spots.{AreSoundEntries, block_listed}
 use Rattle.quad_matrix.specs.Blocks.{alone}
-use Rattle.quad_matrix.specs.Goals.{kind_of, goal_of, FitsAt, IsDefined}
+use Rattle.quad_matrix.specs.Goals.{goal_of, FitsAt, IsDefined}
 use Rattle.quad_matrix.specs.Matrices.{matrices}
 use Rattle.quad_matrix.specs.Works.{work_of}
-use Rattle.quad_matrix.proofs.ForOthers.{sound_some}
-use Rattle.quad_matrix.proofs.ForOthers.{is_there_some, goal_any}
+use Rattle.quad_matrix.proofs.Lists.{sound_some}
+use Rattle.quad_matrix.proofs.ForOthers.{is_there_some, is_there_symmetric_some, goal_any}
+use Rattle.cht_session.specs.Forms.{what_listed}
 use Rattle.cht_session.specs.Program.{IsNullIf}
 use Rattle.cht_session.specs.Held.{Names, IsNameOf}
-use Rattle.cht_session.specs.Given.{IsGiven, IsUndone, IsAssigned, Assigns}
+use Rattle.cht_session.specs.Given.{IsGiven, IsUndone, kind_listed, IsAssigned, Assigns}
 use Rattle.cht_session.proofs.Identifiers.{named_given, removed_again, around}
 use Rattle.cht_session.proofs.Asked.{asked_answered, deleted_is, named_mentioned}
 
 -- the tree of a list
 abbrev list_of : Entries → Tree MatChunk
 list_of entries = alone (chunk.Entries entries)
-
--- the kind that is asked
-abbrev assigns : Entries → MatKind
-assigns entries = kind_of Assign entries.height
 
 -- a list was registered
 pub record IsListed (before after : Seen MatChunk MatKind) (entries : Entries) (id : Id) : Type 0 where
@@ -63,19 +63,21 @@ listed_seen : (before after : Seen MatChunk MatKind) (entries : Entries) (id : I
     → trees_named after (Held id ∷ []) ≡ list_of entries ∷ []
 listed_seen before after entries id is = ap (λ o. tree_of_named o ∷ []) (listed_named before after entries id is)
 
-fits : (entries : Entries) → AreSoundEntries entries.leaf entries.height false entries → FitsAt entries.leaf Assign entries.height (list_of entries ∷ [])
-fits entries sound = (sound, refl, refl, refl, refl)
+fits : (form : Form) (entries : Entries) → AreSoundEntries entries.leaf entries.height (is_symmetric form) entries
+    → FitsAt entries.leaf (what_listed form) entries.height (list_of entries ∷ [])
+fits General entries sound = (sound, refl, refl, refl, refl)
+fits Symmetric entries sound = (sound, refl, refl, refl, refl)
 
 -- its tree is defined
-pub listed_defined : (before after : Seen MatChunk MatKind) (entries : Entries) (id : Id) → IsListed before after entries id
-    → AreSoundEntries entries.leaf entries.height false entries → entries.leaf ≤ 64 → entries.height ≤ 16
-    → IsDefined (assigns entries) (trees_named after (Held id ∷ []))
-listed_defined before after entries id is sound leaf low =
-    subst (IsDefined (assigns entries)) (sym (listed_seen before after entries id is)) (record {
+pub listed_defined : (before after : Seen MatChunk MatKind) (form : Form) (entries : Entries) (id : Id) → IsListed before after entries id
+    → AreSoundEntries entries.leaf entries.height (is_symmetric form) entries → entries.leaf ≤ 64 → entries.height ≤ 16
+    → IsDefined (kind_listed form entries) (trees_named after (Held id ∷ []))
+listed_defined before after form entries id is sound leaf low =
+    subst (IsDefined (kind_listed form entries)) (sym (listed_seen before after entries id is)) (record {
       low = low;
       leaf = entries.leaf;
       leaf_high = leaf;
-      fits = fits entries sound;
+      fits = fits form entries sound;
     })
 
 -- whatever came of it, the list may be deleted
@@ -95,12 +97,17 @@ output_null before (Root c x y z w) Null is = is
 output_null before (Root c x y z w) (Held id) is = tt
 
 -- the tree of a sound list is there
-goal_there : (entries : Entries) → AreSoundEntries entries.leaf entries.height false entries → is_there (goal_of (assigns entries) (list_of entries ∷ [])) ≡ true
-goal_there entries sound =
+goal_there : (form : Form) (entries : Entries) → AreSoundEntries entries.leaf entries.height (is_symmetric form) entries → is_there (goal_of (kind_listed form entries) (list_of entries ∷ [])) ≡ true
+goal_there General entries sound =
     let b = entries.leaf in
     let h = entries.height in
-    ap is_there (goal_any b Assign h (list_of entries ∷ []) (fits entries sound))
+    ap is_there (goal_any b Assign h (list_of entries ∷ []) (fits General entries sound))
     ∙ is_there_some b h (block_listed entries.symmetric (side_of b h) entries.list) (sound_some b h false entries sound)
+goal_there Symmetric entries sound =
+    let b = entries.leaf in
+    let h = entries.height in
+    ap is_there (goal_any b SAssign h (list_of entries ∷ []) (fits Symmetric entries sound))
+    ∙ is_there_symmetric_some b h (block_listed entries.symmetric (side_of b h) entries.list) (sound_some b h true entries sound)
 
 -- a tree that came while a list was registered came without it
 given_around : (names later : Names) (id : Id) (tree list : Tree MatChunk) (r : Ref) → map.get names id.number ≡ None
@@ -110,36 +117,36 @@ given_around names later id tree list (Held k) fresh given =
     let both = around names id.number k.number (record { owner = id.owner; tree = list }) (record { owner = k.owner; tree = tree }) fresh given.0 in
     (both.0, ap (λ n. map.remove n id.number) given.1 ∙ both.1)
 
-pub assigned_done : (before listed asked after : Seen MatChunk MatKind) (entries : Entries) (id : Id) (answer : Result Ref Memory)
-    → before.asks ≡ map.empty → AreSoundEntries entries.leaf entries.height false entries
-    → IsListed before listed entries id → IsAsked matrices listed asked (assigns entries) (Held id ∷ []) answer → after ≡ deleted asked (Held id)
-    → Assigns before after entries answer
-assigned_done before listed asked after entries id (Ok r) idle sound list is end =
-    let got = asked_answered listed asked (assigns entries) (Held id ∷ []) r is in
-    let goal = goal_of (assigns entries) (list_of entries ∷ []) in
+pub assigned_done : (before listed asked after : Seen MatChunk MatKind) (form : Form) (entries : Entries) (id : Id) (answer : Result Ref Memory)
+    → before.asks ≡ map.empty → AreSoundEntries entries.leaf entries.height (is_symmetric form) entries
+    → IsListed before listed entries id → IsAsked matrices listed asked (kind_listed form entries) (Held id ∷ []) answer → after ≡ deleted asked (Held id)
+    → Assigns before after form entries answer
+assigned_done before listed asked after form entries id (Ok r) idle sound list is end =
+    let got = asked_answered listed asked (kind_listed form entries) (Held id ∷ []) r is in
+    let goal = goal_of (kind_listed form entries) (list_of entries ∷ []) in
     let gone = deleted_is asked (Held id) in
     let seen = listed_seen before listed entries id list in
-    let given = subst (λ n. IsGiven n goal r asked.names) list.names (subst (λ trees. IsGiven listed.names (goal_of (assigns entries) trees) r asked.names) seen got.names) in
-    let output = subst (λ trees. IsOutput listed (goal_of (assigns entries) trees) r) seen got.output in
+    let given = subst (λ n. IsGiven n goal r asked.names) list.names (subst (λ trees. IsGiven listed.names (goal_of (kind_listed form entries) trees) r asked.names) seen got.names) in
+    let output = subst (λ trees. IsOutput listed (goal_of (kind_listed form entries) trees) r) seen got.output in
     let caller = got.caller ∙ list.caller in
-    subst (λ (after : Seen MatChunk MatKind). IsAssigned before after entries r) (sym end) (record {
+    subst (λ (after : Seen MatChunk MatKind). IsAssigned before after form entries r) (sym end) (record {
       caller = gone.caller ∙ caller;
       asks = gone.asks ∙ got.asks ∙ list.asks;
       names = given_around before.names asked.names id goal (list_of entries) r list.fresh given;
-      account = gone.account ∙ got.account ∙ ap (λ n. n + work_of (assigns entries) (trees_named listed (Held id ∷ []))) list.account ∙ ap (λ trees. before.account + work_of (assigns entries) trees) seen;
-      events = Register before.caller id [] ∷ Ask before.caller got.task (assigns entries) (Held id ∷ []) ∷ Collect before.caller got.task r ∷ Delete before.caller id ∷ [];
-      of_list = (subst (λ t. IsNullIf (not t) r) (goal_there entries sound) (output_null listed goal r output), id, got.task, refl);
+      account = gone.account ∙ got.account ∙ ap (λ n. n + work_of (kind_listed form entries) (trees_named listed (Held id ∷ []))) list.account ∙ ap (λ trees. before.account + work_of (kind_listed form entries) trees) seen;
+      events = Register before.caller id [] ∷ Ask before.caller got.task (kind_listed form entries) (Held id ∷ []) ∷ Collect before.caller got.task r ∷ Delete before.caller id ∷ [];
+      of_list = (subst (λ t. IsNullIf (not t) r) (goal_there form entries sound) (output_null listed goal r output), id, got.task, refl);
       told =
           gone.told
-          ∙ ap (λ (es : List (Event MatKind)). es ++ Delete asked.caller id ∷ []) (got.told ∙ ap (λ (es : List (Event MatKind)). es ++ Ask listed.caller got.task (assigns entries) (Held id ∷ []) ∷ Collect listed.caller got.task r ∷ []) list.told)
-          ∙ ap (λ (c : ℕ). ((before.events ++ Register before.caller id [] ∷ []) ++ Ask listed.caller got.task (assigns entries) (Held id ∷ []) ∷ Collect listed.caller got.task r ∷ []) ++ Delete c id ∷ []) caller
-          ∙ ap (λ (c : ℕ). ((before.events ++ Register before.caller id [] ∷ []) ++ Ask c got.task (assigns entries) (Held id ∷ []) ∷ Collect c got.task r ∷ []) ++ Delete before.caller id ∷ []) list.caller
-          ∙ joined before.events (Register before.caller id []) (Ask before.caller got.task (assigns entries) (Held id ∷ [])) (Collect before.caller got.task r) (Delete before.caller id);
+          ∙ ap (λ (es : List (Event MatKind)). es ++ Delete asked.caller id ∷ []) (got.told ∙ ap (λ (es : List (Event MatKind)). es ++ Ask listed.caller got.task (kind_listed form entries) (Held id ∷ []) ∷ Collect listed.caller got.task r ∷ []) list.told)
+          ∙ ap (λ (c : ℕ). ((before.events ++ Register before.caller id [] ∷ []) ++ Ask listed.caller got.task (kind_listed form entries) (Held id ∷ []) ∷ Collect listed.caller got.task r ∷ []) ++ Delete c id ∷ []) caller
+          ∙ ap (λ (c : ℕ). ((before.events ++ Register before.caller id [] ∷ []) ++ Ask c got.task (kind_listed form entries) (Held id ∷ []) ∷ Collect c got.task r ∷ []) ++ Delete before.caller id ∷ []) list.caller
+          ∙ joined before.events (Register before.caller id []) (Ask before.caller got.task (kind_listed form entries) (Held id ∷ [])) (Collect before.caller got.task r) (Delete before.caller id);
     })
   where
     joined : (es : List (Event MatKind)) (a b c d : Event MatKind) → ((es ++ a ∷ []) ++ b ∷ c ∷ []) ++ d ∷ [] ≡ es ++ a ∷ b ∷ c ∷ d ∷ []
     joined es a b c d = append_assoc (es ++ a ∷ []) (b ∷ c ∷ []) (d ∷ []) ∙ append_assoc es (a ∷ []) (b ∷ c ∷ d ∷ [])
-assigned_done before listed asked after entries id (Err memory) idle sound list is end =
+assigned_done before listed asked after form entries id (Err memory) idle sound list is end =
     let gone = deleted_is asked (Held id) in
     subst (λ (after : Seen MatChunk MatKind). IsUndone before after) (sym end) (record {
       caller = gone.caller ∙ is.caller ∙ list.caller;

@@ -2,6 +2,7 @@
 use Rattle.std.proofs.Common.{◌≡◌, ℕ, ◌+◌, true, false, not, List, [], ◌∷◌, ◌++◌, Option, Some, None, refl, sym, ap, ap₂, ◌∙◌, subst, ℤ}
 use Rattle.std.specs.Prelude.{Ok, Err}
 use Rattle.std.specs.FinMap as map
+use Rattle.dense_def.specs.Matrix.{height}
 use Rattle.dense_def.proofs.Entries.{height-made, IsMatrix-made}
 use Rattle.cht_ids.specs.declared.memory.Memory.{Memory}
 use Rattle.cht_ids.specs.declared.refs.Ref.{Ref}
@@ -12,29 +13,31 @@ use Rattle.chunk_codec.specs.Spots.{side_of}
 use Rattle.quad_matrix.specs.declared.chunk.MatChunk.{MatChunk}
 use Rattle.quad_matrix.specs.declared.chunk.Entries.{Entries}
 use Rattle.quad_matrix.specs.declared.kind.MatKind.{MatKind}
-use Rattle.mm_text.specs.declared.market.Form.TheVariants.{General}
+use Rattle.mm_text.specs.declared.market.Form.{Form}
 use Rattle.mm_text.specs.declared.market.Market.{Market}
 use Rattle.mm_text.specs.Block.{number_listed}
 use Rattle.cht_script.specs.declared.script.Names.{Names}
 use Rattle.cht_script.specs.declared.script.Verb.TheVariants as verb
-use Rattle.cht_script.specs.Statements.{shapes_fit}
-use Rattle.cht_script.specs.Meaning.{Lists, Acts as Does, matrix_named, form_named, is_refused, matrix_given}
-use Rattle.cht_script.specs.Reading.{name_bytes, names_of, matrix_of_market, IsGoodMarket}
+use Rattle.cht_script.specs.declared.checked.Shape.{Shape}
+use Rattle.cht_script.specs.Statements.{names_after, shape_bound}
+use Rattle.cht_script.specs.Meaning.{Lists, Acts as Does, matrix_named, form_named, is_refused}
+use Rattle.cht_script.specs.Reading.{name_bytes, names_of, matrix_of_market, shape_of_market, IsGoodMarket}
 use Rattle.cht_session.specs.declared.held.Binding.{Binding}
 use Rattle.cht_session.specs.declared.held.Held.{Held}
 use Rattle.cht_session.specs.declared.operation.Operation.{Operation}
-use Rattle.cht_session.specs.Operations.{verb_of, sizes_of}
-use Rattle.cht_session.specs.Listed.{IsListOf, most_listed}
+use Rattle.cht_session.specs.Forms.{IsListIn}
+use Rattle.cht_session.specs.Operations.{verb_of}
+use Rattle.cht_session.specs.Listed.{most_listed}
 use Rattle.cht_session.specs.Bindings.{found_in, shape_found, shape_at, IsSameHeld, IsEnded}
 use Rattle.cht_session.specs.Program.{Bound, known_in}
 use Rattle.cht_session.specs.Held.{side_in, IsShown, IsWell}
 use Rattle.cht_session.specs.Given.{IsUndone, Combines, IsReadyPair, AssignsAny, IsTraced}
-use Rattle.cht_session.specs.Running.{IsEffect, IsGoing, IsPair}
+use Rattle.cht_session.specs.Running.{inputs_fit, last_input, IsFitting, IsEffect, IsGoing}
 use Rattle.cht_session.proofs.Asked.{nothing_done}
 use Rattle.cht_session.proofs.ListedEntries.{listed_side}
-use Rattle.cht_session.proofs.Matrices.{given_tall, given_wide}
+use Rattle.cht_session.proofs.FormVerbs.{given_shape}
 use Rattle.cht_session.proofs.Shown.{shown_same, going_undone, is_found}
-use Rattle.cht_session.proofs.Effects.{one_name, two_names, three_names, IsBoundIn, IsMade, effect_same, going_same, made_effect, made_left, copy_made, refused_operation, form_of, form_general, after_operation, pair_tested, pair_ready, pair_made, market_made, delete_effect}
+use Rattle.cht_session.proofs.Effects.{one_name, two_names, IsBoundIn, IsMade, effect_same, going_same, made_effect, made_left, copy_made, operation_deed, operation_named, refused_operation, form_made, matrix_made, after_operation, pair_tested, pair_ready, pair_made, market_made, delete_effect}
 
 -- ---- Where nothing was done
 
@@ -53,7 +56,7 @@ not_copied seen now (HeldId id) memory idle is = nothing_done seen now idle is
 module _ (names : Names) (seen now : Seen MatChunk MatKind) (held room later : Held) (one : Binding) (at : Ref)
     (count : names.count ≡ 2) (same : IsSameHeld held room) (none : found_in room (name_bytes names.first) ≡ None)
     (found : found_in room (name_bytes names.second) ≡ Some one) (copied : IsCopied seen now one.at (Ok at)) where
-  pub copy_done : IsBoundIn room later (name_bytes names.first) one.rows one.columns at → (line : ℕ) (env : List Bound) → IsShown seen held env
+  pub copy_done : IsBoundIn room later (name_bytes names.first) one.shape at → (line : ℕ) (env : List Bound) → IsShown seen held env
       → IsEffect env (Does line verb.Copy (names_of names)) seen held now later
   copy_done bound line env shown =
       let c = name_bytes names.first in
@@ -63,7 +66,7 @@ module _ (names : Names) (seen now : Seen MatChunk MatKind) (held room later : H
       let f = is_found seen room env a one is found in
       subst (λ ns. IsEffect env (Does line verb.Copy ns) seen held now later) (sym (two_names names count))
       (effect_same env (Does line verb.Copy (c ∷ a ∷ [])) seen now held room later same
-      (made_effect env (Does line verb.Copy (c ∷ a ∷ [])) seen now room later c (matrix_named (known_in env) a) at one.rows one.columns (form_named (known_in env) a) is none made f.rows f.columns bound f.form refl))
+      (made_effect env (Does line verb.Copy (c ∷ a ∷ [])) seen now room later c (form_named (known_in env) a) (matrix_named (known_in env) a) at one.shape is none made f.shape bound refl))
 
   pub copy_left : IsWell seen held → later.leaf ≡ room.leaf → later.height ≡ room.height → later.order.items ≡ room.order.items ++ at ∷ [] → IsGoing seen held now later
   copy_left well leaf levels order =
@@ -72,7 +75,7 @@ module _ (names : Names) (seen now : Seen MatChunk MatKind) (held room later : H
       let a = name_bytes names.second in
       let is = shown_same seen held room env well.1 same in
       going_same seen now held room later same
-      (made_left env (Does 0 verb.Copy (c ∷ a ∷ [])) seen now room later c (matrix_named (known_in env) a) at is none (copy_made env 0 c a seen now room one at is found copied) leaf levels order)
+      (made_left env (Does 0 verb.Copy (c ∷ a ∷ [])) seen now room later c (form_named (known_in env) a) (matrix_named (known_in env) a) at is none (copy_made env 0 c a seen now room one at is found copied) leaf levels order)
 
 pub copy_ready : (names : Names) (seen : Seen MatChunk MatKind) (held room : Held) (one : Binding) → IsWell seen held → IsSameHeld held room → (a : List ℕ)
     → found_in room a ≡ Some one → MayMention seen one.at
@@ -81,27 +84,24 @@ copy_ready names seen held room one well same a found = (is_found seen room well
 -- ---- An operation
 
 module _ (operation : Operation) (names : Names) (seen : Seen MatChunk MatKind) (held room : Held) (one other : Binding)
-    (same : IsSameHeld held room) (shapes : IsPair held (verb_of operation) names)
-    (p : found_in room (name_bytes names.second) ≡ Some one) (q : found_in room (name_bytes names.third) ≡ Some other) where
-  abbrev pub c_of : List ℕ
-  c_of = name_bytes names.first
-
+    (same : IsSameHeld held room) (shapes : IsFitting held operation names)
+    (p : found_in room (name_bytes names.second) ≡ Some one) (q : found_in room (name_bytes (last_input operation names)) ≡ Some other) where
   abbrev pub a_of : List ℕ
   a_of = name_bytes names.second
 
   abbrev pub b_of : List ℕ
-  b_of = name_bytes names.third
+  b_of = name_bytes (last_input operation names)
 
-  fit : shapes_fit (verb_of operation) (shape_at room a_of) (shape_at room b_of) ≡ true
-  fit = ap₂ (λ x y. shapes_fit (verb_of operation) (shape_found x) (shape_found y)) (same.found a_of) (same.found b_of) ∙ shapes
+  fit : inputs_fit (verb_of operation) (shape_at room a_of) (shape_at room b_of) ≡ true
+  fit = ap₂ (λ x y. inputs_fit (verb_of operation) (shape_found x) (shape_found y)) (same.found a_of) (same.found b_of) ∙ shapes
 
   -- the goal is defined where the test is met
   pub combine_ready : IsWell seen held → IsReadyPair seen room.height operation one other
   combine_ready well = pair_ready operation well.0 seen room a_of b_of one other (shown_same seen held room well.0 well.1 same) p q fit
 
 module _ (operation : Operation) (names : Names) (seen now : Seen MatChunk MatKind) (held room later : Held) (one other : Binding)
-    (same : IsSameHeld held room) (shapes : IsPair held (verb_of operation) names)
-    (p : found_in room (name_bytes names.second) ≡ Some one) (q : found_in room (name_bytes names.third) ≡ Some other)
+    (same : IsSameHeld held room) (shapes : IsFitting held operation names)
+    (p : found_in room (name_bytes names.second) ≡ Some one) (q : found_in room (name_bytes (last_input operation names)) ≡ Some other)
     (at : Ref) (none : found_in room (name_bytes names.first) ≡ None) (got : Combines seen now room.height operation one other (Ok (Some at))) where
   abbrev c : List ℕ
   c = name_bytes names.first
@@ -110,10 +110,10 @@ module _ (operation : Operation) (names : Names) (seen now : Seen MatChunk MatKi
   a = name_bytes names.second
 
   abbrev b : List ℕ
-  b = name_bytes names.third
+  b = name_bytes (last_input operation names)
 
   combine_made : (line : ℕ) (env : List Bound) → IsShown seen room env
-      → IsMade room.leaf room.height env (Does line (verb_of operation) (c ∷ a ∷ b ∷ [])) seen now (matrix_given (verb_of operation) (matrix_named (known_in env) a) (matrix_named (known_in env) b)) at
+      → IsMade room.leaf room.height env (operation_deed operation line c a b) seen now (form_made operation (known_in env) a) (matrix_made operation (known_in env) a b) at
   combine_made line env is = pair_made operation env seen room a b one other is p q line c now at (fit operation names seen held room one other same shapes p q) got
 
   pub combine_left : IsWell seen held → later.leaf ≡ room.leaf → later.height ≡ room.height → later.order.items ≡ room.order.items ++ at ∷ [] → IsGoing seen held now later
@@ -121,49 +121,48 @@ module _ (operation : Operation) (names : Names) (seen now : Seen MatChunk MatKi
       let env = well.0 in
       let is = shown_same seen held room env well.1 same in
       going_same seen now held room later same
-      (made_left env (Does 0 (verb_of operation) (c ∷ a ∷ b ∷ [])) seen now room later c (matrix_given (verb_of operation) (matrix_named (known_in env) a) (matrix_named (known_in env) b)) at is none
+      (made_left env (operation_deed operation 0 c a b) seen now room later c (form_made operation (known_in env) a) (matrix_made operation (known_in env) a b) at is none
       (combine_made 0 env is) leaf levels order)
 
 module _ (operation : Operation) (names : Names) (seen now : Seen MatChunk MatKind) (held room later : Held) (one other : Binding)
-    (count : names.count ≡ 3) (same : IsSameHeld held room) (shapes : IsPair held (verb_of operation) names)
-    (p : found_in room (name_bytes names.second) ≡ Some one) (q : found_in room (name_bytes names.third) ≡ Some other)
+    (count : names.count ≡ names_after (verb_of operation)) (same : IsSameHeld held room) (shapes : IsFitting held operation names)
+    (p : found_in room (name_bytes names.second) ≡ Some one) (q : found_in room (name_bytes (last_input operation names)) ≡ Some other)
     (at : Ref) (none : found_in room (name_bytes names.first) ≡ None) (got : Combines seen now room.height operation one other (Ok (Some at))) where
-  pub combine_done : (rows columns : ℕ) → rows ≡ (sizes_of operation (one.rows, one.columns) (other.rows, other.columns)).0
-      → columns ≡ (sizes_of operation (one.rows, one.columns) (other.rows, other.columns)).1
-      → IsBoundIn room later (name_bytes names.first) rows columns at → (line : ℕ) (env : List Bound) → IsShown seen held env
+  pub combine_done : (shape : Shape) → shape ≡ shape_bound (verb_of operation) one.shape other.shape
+      → IsBoundIn room later (name_bytes names.first) shape at → (line : ℕ) (env : List Bound) → IsShown seen held env
       → (is_refused (known_in env) (Does line (verb_of operation) (names_of names)) ≡ false) × IsEffect env (Does line (verb_of operation) (names_of names)) seen held now later
-  combine_done rows columns r k bound line env shown =
+  combine_done shape shaped bound line env shown =
       let c = name_bytes names.first in
       let a = name_bytes names.second in
-      let b = name_bytes names.third in
+      let b = name_bytes (last_input operation names) in
       let is = shown_same seen held room env shown same in
-      let f = is_found seen room env a one is p in
-      let g = is_found seen room env b other is q in
+      let x = is_found seen room env a one is p in
+      let y = is_found seen room env b other is q in
       let m = matrix_named (known_in env) a in
       let n = matrix_named (known_in env) b in
-      let sizes = ap₂ (λ x y. sizes_of operation x y) (ap₂ (λ (i j : ℕ). (i, j)) f.rows f.columns) (ap₂ (λ (i j : ℕ). (i, j)) g.rows g.columns) in
-      let deed = Does line (verb_of operation) (c ∷ a ∷ b ∷ []) in
-      subst (λ ns. (is_refused (known_in env) (Does line (verb_of operation) ns) ≡ false) × IsEffect env (Does line (verb_of operation) ns) seen held now later) (sym (three_names names count)) (
+      let f = form_named (known_in env) a in
+      let g = form_named (known_in env) b in
+      let deed = operation_deed operation line c a b in
+      subst (λ ns. (is_refused (known_in env) (Does line (verb_of operation) ns) ≡ false) × IsEffect env (Does line (verb_of operation) ns) seen held now later) (sym (operation_named operation names count)) (
         refused_operation operation (known_in env) line c a b ∙ ap not (sym (pair_tested operation env seen room a b one other is p q) ∙ got.0),
         effect_same env deed seen now held room later same
-            (made_effect env deed seen now room later c (matrix_given (verb_of operation) m n) at rows columns (form_of operation (form_named (known_in env) a)) is none
+            (made_effect env deed seen now room later c (form_made operation (known_in env) a) (matrix_made operation (known_in env) a b) at shape is none
             (combine_made operation names seen now held room later one other same shapes p q at none got line env is)
-            (r ∙ ap (λ (s : ℕ × ℕ). s.0) sizes ∙ sym (given_tall room.leaf room.height m n f.sound g.sound operation))
-            (k ∙ ap (λ (s : ℕ × ℕ). s.1) sizes ∙ sym (given_wide room.leaf room.height m n f.sound g.sound operation))
-            bound (form_general operation (form_named (known_in env) a) f.form) (after_operation operation env line c a b at)),
+            (shaped ∙ ap₂ (shape_bound (verb_of operation)) x.shape y.shape ∙ sym (given_shape (verb_of operation) f g m n))
+            bound (after_operation operation env line c a b at)),
       )
 
 pub combine_refused : (operation : Operation) (names : Names) (seen now : Seen MatChunk MatKind) (held room : Held) (one other : Binding)
-    → names.count ≡ 3 → IsSameHeld held room → IsPair held (verb_of operation) names
-    → found_in room (name_bytes names.second) ≡ Some one → found_in room (name_bytes names.third) ≡ Some other
+    → names.count ≡ names_after (verb_of operation) → IsSameHeld held room
+    → found_in room (name_bytes names.second) ≡ Some one → found_in room (name_bytes (last_input operation names)) ≡ Some other
     → Combines seen now room.height operation one other (Ok None) → (line : ℕ) (env : List Bound) → IsShown seen held env
     → (is_refused (known_in env) (Does line (verb_of operation) (names_of names)) ≡ true) × (now ≡ seen) × IsShown now room env
-combine_refused operation names seen now held room one other count same shapes p q got line env shown =
+combine_refused operation names seen now held room one other count same p q got line env shown =
     let is = shown_same seen held room env shown same in
     let c = name_bytes names.first in
     let a = name_bytes names.second in
-    let b = name_bytes names.third in (
-      ap (λ ns. is_refused (known_in env) (Does line (verb_of operation) ns)) (three_names names count)
+    let b = name_bytes (last_input operation names) in (
+      ap (λ ns. is_refused (known_in env) (Does line (verb_of operation) ns)) (operation_named operation names count)
           ∙ refused_operation operation (known_in env) line c a b ∙ ap not (sym (pair_tested operation env seen room a b one other is p q) ∙ got.0),
       got.1,
       subst (λ (s : Seen MatChunk MatKind). IsShown s room env) (sym got.1) is,
@@ -172,32 +171,38 @@ combine_refused operation names seen now held room one other count same shapes p
 -- ---- A list
 
 module _ (seen now : Seen MatChunk MatKind) (held room later : Held) (name : List ℕ) (market : Market) (entries : Option Entries) (at : Ref)
-    (same : IsSameHeld held room) (good : IsGoodMarket (most_listed (side_in held)) market) (form : market.form ≡ General)
-    (none : found_in room name ≡ None) (listed : IsListOf room.leaf room.height (matrix_of_market market) entries) (got : AssignsAny seen now entries (Ok at)) where
-  listed_made : (line : ℕ) (env : List Bound) → IsMade room.leaf room.height env (Lists line name market.form (matrix_of_market market)) seen now (matrix_of_market market) at
+    (same : IsSameHeld held room) (good : IsGoodMarket (most_listed (side_in held)) market)
+    (none : found_in room name ≡ None) (listed : IsListIn market.form room.leaf room.height (matrix_of_market market) entries)
+    (got : AssignsAny seen now market.form entries (Ok at)) where
+  abbrev values : ℕ → ℕ → ℤ
+  values i j = number_listed market.form market.entries (i + 1) (j + 1)
+
+  tall : height (matrix_of_market market) ≡ market.rows
+  tall = height-made market.rows market.columns values
+
+  listed_made : (line : ℕ) (env : List Bound) → IsMade room.leaf room.height env (Lists line name market.form (matrix_of_market market)) seen now market.form (matrix_of_market market) at
   listed_made line env =
-      let values : ℕ → ℕ → ℤ = λ i j. number_listed market.form market.entries (i + 1) (j + 1) in
       let m = matrix_of_market market in
       let side : side_of room.leaf room.height ≡ side_in held = ap₂ side_of same.leaf same.height in
-      market_made env line name market.form m seen now room entries at form (IsMatrix-made market.rows market.columns values)
-      (rw (height-made market.rows market.columns values, side) (listed_side (side_in held) market.rows good.rows.1))
-      (rw side (listed_side (side_in held) market.columns good.columns.1)) listed got
+      market_made env line name market.form m seen now room entries at (IsMatrix-made market.rows market.columns values)
+      (rw (tall, side) (listed_side (side_in held) market.rows good.rows.1))
+      (rw side (listed_side (side_in held) market.columns good.columns.1))
+      (λ symmetric. tall ∙ good.square symmetric) listed got
 
-  pub market_done : IsBoundIn room later name market.rows market.columns at → (line : ℕ) (env : List Bound) → IsShown seen held env
+  pub market_done : IsBoundIn room later name (shape_of_market market) at → (line : ℕ) (env : List Bound) → IsShown seen held env
       → IsEffect env (Lists line name market.form (matrix_of_market market)) seen held now later
   market_done bound line env shown =
-      let values : ℕ → ℕ → ℤ = λ i j. number_listed market.form market.entries (i + 1) (j + 1) in
       let is = shown_same seen held room env shown same in
       let deed = Lists line name market.form (matrix_of_market market) in
       effect_same env deed seen now held room later same
-      (made_effect env deed seen now room later name (matrix_of_market market) at market.rows market.columns market.form is none (listed_made line env)
-      (sym (height-made market.rows market.columns values)) refl bound form refl)
+      (made_effect env deed seen now room later name market.form (matrix_of_market market) at (shape_of_market market) is none (listed_made line env)
+      (ap (λ rows. record { rows = rows; columns = market.columns; form = market.form }) (sym tall)) bound refl)
 
   pub market_left : IsWell seen held → later.leaf ≡ room.leaf → later.height ≡ room.height → later.order.items ≡ room.order.items ++ at ∷ [] → IsGoing seen held now later
   market_left well leaf levels order =
       let env = well.0 in
       going_same seen now held room later same
-      (made_left env (Lists 0 name market.form (matrix_of_market market)) seen now room later name (matrix_of_market market) at (shown_same seen held room env well.1 same) none (listed_made 0 env) leaf levels order)
+      (made_left env (Lists 0 name market.form (matrix_of_market market)) seen now room later name market.form (matrix_of_market market) at (shown_same seen held room env well.1 same) none (listed_made 0 env) leaf levels order)
 
 -- ---- A delete
 
@@ -208,9 +213,10 @@ delete_done names seen now held later r count leaf levels ended same line env sh
     subst (λ ns. IsEffect env (Does line verb.Delete ns) seen held now later) (sym (one_name names count))
     (delete_effect env line (name_bytes names.first) seen now held later r shown leaf levels ended same)
 
-pub not_assigned : (seen now : Seen MatChunk MatKind) (entries : Option Entries) (memory : Memory) → AssignsAny seen now entries (Err memory) → IsUndone seen now
-not_assigned seen now None memory is = absurd is
-not_assigned seen now (Some entries) memory is = is
+pub not_assigned : (seen now : Seen MatChunk MatKind) (form : Form) (entries : Option Entries) (memory : Memory) → AssignsAny seen now form entries (Err memory)
+    → IsUndone seen now
+not_assigned seen now form None memory is = absurd is
+not_assigned seen now form (Some entries) memory is = is
 
 -- ---- Where what is held stays
 
@@ -224,5 +230,5 @@ stays seen now held well is = undone seen now held held well (held_same held) is
 pub stays_still : (seen now : Seen MatChunk MatKind) (held : Held) → IsWell seen held → now ≡ seen → IsGoing seen held now held
 stays_still seen now held well same = stays seen now held well (nothing_done seen now well.1.idle same)
 
-pub traced_undone : (seen now : Seen MatChunk MatKind) (h : ℕ) (at : Ref) (number : ℤ) → seen.asks ≡ map.empty → IsTraced seen now h at number → IsUndone seen now
-traced_undone seen now h at number idle is = record { caller = is.caller; asks = is.asks ∙ idle; names = is.names }
+pub traced_undone : (seen now : Seen MatChunk MatKind) (kind : MatKind) (at : Ref) (number : ℤ) → seen.asks ≡ map.empty → IsTraced seen now kind at number → IsUndone seen now
+traced_undone seen now kind at number idle is = record { caller = is.caller; asks = is.asks ∙ idle; names = is.names }

@@ -1,9 +1,10 @@
 -- What the calls of a statement do is what the statement does.
 use Rattle.std.proofs.Common.{◌≡◌, ℕ, ◌+◌, ◌≤◌, Bool, true, false, not, cond, List, [], ◌∷◌, ◌++◌, take, Option, Some, None, refl, sym, ap, ap₂, ◌∙◌, subst, subst₂, append-nil, arith}
 use Rattle.std.specs.Prelude.{Ok}
+use Rattle.std.proofs.lemmas.Bool.{eq-eqb}
 use Rattle.std.specs.FinMap as map
 use Rattle.std.specs.Str.{bytes_eq}
-use Rattle.dense_def.specs.Matrix.{Matrix, height, IsMatrix, completed}
+use Rattle.dense_def.specs.Matrix.{Matrix, height, peak_of, IsMatrix, completed}
 use Rattle.cht_ids.specs.declared.refs.Ref.{Ref}
 use Rattle.cht_ids.specs.declared.refs.Ref.TheVariants.{Null, Id as HeldId}
 use Rattle.cht_history.specs.declared.event.Event.{Event}
@@ -15,32 +16,36 @@ use Rattle.quad_matrix.specs.declared.chunk.MatChunk.{MatChunk}
 use Rattle.quad_matrix.specs.declared.chunk.Entries.{Entries}
 use Rattle.quad_matrix.specs.declared.kind.MatKind.{MatKind}
 use Rattle.quad_matrix.specs.Goals.{kind_of, goal_of, IsDefined}
-use Rattle.quad_matrix.specs.Works.{assign_work, work_of}
+use Rattle.quad_matrix.specs.Works.{work_of}
 use Rattle.mm_text.specs.declared.market.Form.{Form}
-use Rattle.mm_text.specs.declared.market.Form.TheVariants.{General}
+use Rattle.mm_text.specs.declared.market.Form.TheVariants.{Symmetric}
 use Rattle.cht_script.specs.declared.script.Names.{Names}
 use Rattle.cht_script.specs.declared.script.Verb.TheVariants as verb
-use Rattle.cht_script.specs.Statements.{shapes_fit, general}
-use Rattle.cht_script.specs.Meaning.{Known, Deed, Lists, Acts as Does, named_matrix, matrix_named, form_named, is_bounded, matrix_given, is_refused}
+use Rattle.cht_script.specs.declared.checked.Shape.{Shape}
+use Rattle.cht_script.specs.Statements.{names_after, shapes_fit, forms_fit}
+use Rattle.cht_script.specs.Meaning.{Known, Deed, Lists, Acts as Does, named_matrix, matrix_named, form_named, is_bounded, matrix_given, form_given, is_refused}
 use Rattle.cht_script.specs.Newest.{newest}
 use Rattle.cht_script.specs.Reading.{name_bytes, names_of}
 use Rattle.cht_session.specs.declared.held.Binding.{Binding}
 use Rattle.cht_session.specs.declared.held.Held.{Held}
 use Rattle.cht_session.specs.declared.operation.Operation.{Operation}
-use Rattle.cht_session.specs.declared.operation.Operation.TheVariants.{Add, Mul, TMul, MulT}
-use Rattle.cht_session.specs.Operations.{verb_of, what_of}
+use Rattle.cht_session.specs.declared.operation.Operation.TheVariants.{Add, Mul, TMul, MulT, Square, Full}
+use Rattle.cht_session.specs.Forms.{tree_in, IsSoundIn, shape_of, what_asked, inputs_asked, asks_matrix, what_listed, list_work, work_listed, IsListIn}
+use Rattle.cht_session.specs.Operations.{verb_of, is_single}
 use Rattle.cht_session.specs.Numbers.{root_peak}
-use Rattle.cht_session.specs.Listed.{IsListOf}
 use Rattle.cht_session.specs.Bindings.{found_in, shape_at, IsSameHeld, IsAdded, EndsAs, IsEnded}
-use Rattle.cht_session.specs.Program.{Bound, known_in, is_bound_as, left_without, reference_found, reference_named, with_reference, env_after, deletes, IsNullIf, is_zero, AreOfDeed, AreOfAsk, AreOfCopy, AreOfMarket, AreOfList}
-use Rattle.cht_session.specs.Works.{tree_of, work_by, work_of_list}
-use Rattle.cht_session.specs.Held.{without, IsSoundMatrix, IsShown}
-use Rattle.cht_session.specs.Given.{IsGiven, fits_at, IsReadyPair, Combines, AssignsAny}
-use Rattle.cht_session.specs.Running.{IsEffect, IsGoing}
+use Rattle.cht_session.specs.Program.{Bound, known_in, is_bound_as, left_without, reference_found, reference_named, with_reference, env_after, deletes, IsNullIf, is_zero, AreOfDeed, AreOfAsk, AreOfCopy, AreOfList}
+use Rattle.cht_session.specs.Works.{work_by}
+use Rattle.cht_session.specs.Held.{without, IsShown}
+use Rattle.cht_session.specs.Given.{IsGiven, fits_at, kind_for, inputs_for, IsReadyPair, Combines, AssignsAny}
+use Rattle.cht_session.specs.Running.{inputs_fit, last_input, IsEffect, IsGoing}
 use Rattle.cht_session.proofs.Asked.{deleted_is}
 use Rattle.cht_session.proofs.Assigned.{output_null}
 use Rattle.cht_session.proofs.Bindings.{bytes_same, left_all, finds_nothing}
-use Rattle.cht_session.proofs.Matrices.{tree_peak, tree_null, combined_tested, combined_fits, combined_sound, listed_sound, listed_some, listed_work, empty_sound}
+use Rattle.cht_session.proofs.FormTrees.{tree_peak, tree_null, empty_sound}
+use Rattle.cht_session.proofs.FormLists.{listed_sound, listed_some, listed_work}
+use Rattle.cht_session.proofs.FormVerbs.{asked_fits, asked_sound}
+use Rattle.cht_session.proofs.Tests.{both, operation_tested}
 use Rattle.cht_session.proofs.Shown.{shown_same, shown_seen, shown_left, is_found, shown_added, left_added, shown_ended}
 
 -- ---- The names of a statement
@@ -84,29 +89,29 @@ effect_going env deed seen now held later is = record {
 }
 
 -- what the binding of a name left
-pub record IsBoundIn (room later : Held) (name : List ℕ) (rows columns : ℕ) (at : Ref) : Type 0 where
+pub record IsBoundIn (room later : Held) (name : List ℕ) (shape : Shape) (at : Ref) : Type 0 where
   pub leaf : later.leaf ≡ room.leaf
   pub height : later.height ≡ room.height
   pub order : later.order.items ≡ room.order.items ++ at ∷ []
-  pub added : IsAdded room name rows columns at later
+  pub added : IsAdded room name shape at later
 
--- what calls gave for a matrix that is to be bound
-pub record IsMade (b h : ℕ) (env : List Bound) (deed : Deed) (seen now : Seen MatChunk MatKind) (m : Matrix) (at : Ref) : Type 0 where
-  pub names : IsGiven seen.names (tree_of b h m) at now.names
+-- what calls gave for a matrix in a form that is to be bound
+pub record IsMade (b h : ℕ) (env : List Bound) (deed : Deed) (seen now : Seen MatChunk MatKind) (form : Form) (m : Matrix) (at : Ref) : Type 0 where
+  pub names : IsGiven seen.names (tree_in form b h m) at now.names
   pub asks : now.asks ≡ seen.asks
   pub caller : now.caller ≡ seen.caller
-  pub sound : IsSoundMatrix b h m
+  pub sound : IsSoundIn form b h m
   pub events : List (Event MatKind)
   pub program : AreOfDeed seen.caller h env deed at events
   pub told : now.events ≡ seen.events ++ events
   pub account : now.account ≡ seen.account + work_by b h (known_in env) deed
 
-module _ (env : List Bound) (deed : Deed) (seen now : Seen MatChunk MatKind) (room later : Held) (name : List ℕ) (m : Matrix) (at : Ref) where
-  pub made_effect : (rows columns : ℕ) (form : Form) → IsShown seen room env → found_in room name ≡ None → IsMade room.leaf room.height env deed seen now m at
-      → rows ≡ height m → columns ≡ m.columns → IsBoundIn room later name rows columns at → form ≡ General
+module _ (env : List Bound) (deed : Deed) (seen now : Seen MatChunk MatKind) (room later : Held) (name : List ℕ) (form : Form) (m : Matrix) (at : Ref) where
+  pub made_effect : (shape : Shape) → IsShown seen room env → found_in room name ≡ None → IsMade room.leaf room.height env deed seen now form m at
+      → shape ≡ shape_of form m → IsBoundIn room later name shape at
       → env_after env deed at ≡ env ++ with_reference at (named_matrix form m name) ∷ []
       → IsEffect env deed seen room now later
-  made_effect rows columns form is none made tall wide bound general after = record {
+  made_effect shape is none made shaped bound after = record {
     at = at;
     events = made.events;
     program = made.program;
@@ -116,18 +121,18 @@ module _ (env : List Bound) (deed : Deed) (seen now : Seen MatChunk MatKind) (ro
     leaf = bound.leaf;
     height = bound.height;
     shown =
-        subst (IsShown now later) (ap (λ form. env ++ with_reference at (named_matrix form m name) ∷ []) (sym general) ∙ sym after)
-        (shown_added seen now room later env name rows columns at m is none made.names (made.asks ∙ is.idle) made.sound tall wide bound.leaf bound.height bound.order bound.added);
+        subst (IsShown now later) (sym after)
+        (shown_added seen now room later env name shape at form m is none made.names (made.asks ∙ is.idle) made.sound shaped bound.leaf bound.height bound.order bound.added);
   }
 
   -- memory ran out before the name was bound
-  pub made_left : IsShown seen room env → found_in room name ≡ None → IsMade room.leaf room.height env deed seen now m at
+  pub made_left : IsShown seen room env → found_in room name ≡ None → IsMade room.leaf room.height env deed seen now form m at
       → later.leaf ≡ room.leaf → later.height ≡ room.height → later.order.items ≡ room.order.items ++ at ∷ [] → IsGoing seen room now later
   made_left is none made leaf levels order = record {
     caller = made.caller;
     leaf = leaf;
     height = levels;
-    left = left_added seen now room later env name at m is none made.names (made.asks ∙ is.idle) order;
+    left = left_added seen now room later env name at form m is none made.names (made.asks ∙ is.idle) order;
   }
 
 pub going_same : (seen now : Seen MatChunk MatKind) (held room later : Held) → IsSameHeld held room → IsGoing seen room now later → IsGoing seen held now later
@@ -142,18 +147,14 @@ going_same seen now held room later same is = record {
 
 pub copy_made : (env : List Bound) (line : ℕ) (c a : List ℕ) (seen now : Seen MatChunk MatKind) (held : Held) (one : Binding) (at : Ref)
     → IsShown seen held env → found_in held a ≡ Some one → IsCopied seen now one.at (Ok at)
-    → IsMade held.leaf held.height env (Does line verb.Copy (c ∷ a ∷ [])) seen now (matrix_named (known_in env) a) at
+    → IsMade held.leaf held.height env (Does line verb.Copy (c ∷ a ∷ [])) seen now (form_named (known_in env) a) (matrix_named (known_in env) a) at
 copy_made env line c a seen now held one at is found copied =
     let f = is_found seen held env a one is found in
-    let b = held.leaf in
-    let h = held.height in
-    let m = matrix_named (known_in env) a in
-    let deed = Does line verb.Copy (c ∷ a ∷ []) in
     case one.at at f.tree f.reference copied f.sound
   where
-    case : (r at : Ref) → tree_named seen r ≡ tree_of held.leaf held.height (matrix_named (known_in env) a) → reference_named env a ≡ r → IsCopied seen now r (Ok at)
-        → IsSoundMatrix held.leaf held.height (matrix_named (known_in env) a)
-        → IsMade held.leaf held.height env (Does line verb.Copy (c ∷ a ∷ [])) seen now (matrix_named (known_in env) a) at
+    case : (r at : Ref) → tree_named seen r ≡ tree_in (form_named (known_in env) a) held.leaf held.height (matrix_named (known_in env) a) → reference_named env a ≡ r → IsCopied seen now r (Ok at)
+        → IsSoundIn (form_named (known_in env) a) held.leaf held.height (matrix_named (known_in env) a)
+        → IsMade held.leaf held.height env (Does line verb.Copy (c ∷ a ∷ [])) seen now (form_named (known_in env) a) (matrix_named (known_in env) a) at
     case Null Null tree reference copied sound = record {
       names = (sym tree, ap (λ (s : Seen MatChunk MatKind). s.names) copied);
       asks = ap (λ (s : Seen MatChunk MatKind). s.asks) copied;
@@ -179,50 +180,99 @@ copy_made env line c a seen now held one at is found copied =
 
 -- ---- An operation
 
+-- the names of its statement: the one that it binds, and its inputs
+abbrev pub operation_names : Operation → List ℕ → List ℕ → List ℕ → List (List ℕ)
+operation_names operation c a b = c ∷ inputs_asked (verb_of operation) a b
+
+-- its statement
+abbrev pub operation_deed : Operation → ℕ → List ℕ → List ℕ → List ℕ → Deed
+operation_deed operation line c a b = Does line (verb_of operation) (operation_names operation c a b)
+
+pub operation_named : (operation : Operation) (names : Names) → names.count ≡ names_after (verb_of operation)
+    → names_of names ≡ operation_names operation (name_bytes names.first) (name_bytes names.second) (name_bytes (last_input operation names))
+operation_named Add names count = three_names names count
+operation_named Mul names count = three_names names count
+operation_named TMul names count = three_names names count
+operation_named MulT names count = three_names names count
+operation_named Square names count = two_names names count
+operation_named Full names count = two_names names count
+
+-- the inputs where there are two
+pub pair_inputs : {X : Type 0} → (operation : Operation) (x y : X) → is_single operation ≡ false → inputs_asked (verb_of operation) x y ≡ x ∷ y ∷ []
+pair_inputs Add x y e = refl
+pair_inputs Mul x y e = refl
+pair_inputs TMul x y e = refl
+pair_inputs MulT x y e = refl
+pair_inputs Square x y e = absurd cc
+pair_inputs Full x y e = absurd cc
+
+pub operation_asks : (operation : Operation) → asks_matrix (verb_of operation) ≡ true
+operation_asks Add = refl
+operation_asks Mul = refl
+operation_asks TMul = refl
+operation_asks MulT = refl
+operation_asks Square = refl
+operation_asks Full = refl
+
 of_operation : (operation : Operation) (caller h : ℕ) (env : List Bound) (line : ℕ) (c a b : List ℕ) (r : Ref) (events : List (Event MatKind))
-    → AreOfAsk caller (kind_of (what_of operation) h) (reference_named env a ∷ reference_named env b ∷ [])
+    → AreOfAsk caller (kind_of (what_asked (verb_of operation) (form_named (known_in env) a) (form_named (known_in env) b)) h)
+    (inputs_asked (verb_of operation) (reference_named env a) (reference_named env b))
     (is_zero (matrix_given (verb_of operation) (matrix_named (known_in env) a) (matrix_named (known_in env) b))) r events
-    → AreOfDeed caller h env (Does line (verb_of operation) (c ∷ a ∷ b ∷ [])) r events
+    → AreOfDeed caller h env (operation_deed operation line c a b) r events
 of_operation Add caller h env line c a b r events is = is
 of_operation Mul caller h env line c a b r events is = is
 of_operation TMul caller h env line c a b r events is = is
 of_operation MulT caller h env line c a b r events is = is
+of_operation Square caller h env line c a b r events is = is
+of_operation Full caller h env line c a b r events is = is
 
 work_of_operation : (operation : Operation) (l h : ℕ) (known : List Known) (line : ℕ) (c a b : List ℕ)
-    → work_by l h known (Does line (verb_of operation) (c ∷ a ∷ b ∷ []))
-    ≡ work_of (kind_of (what_of operation) h) (tree_of l h (matrix_named known a) ∷ tree_of l h (matrix_named known b) ∷ [])
+    → work_by l h known (operation_deed operation line c a b)
+    ≡ work_of (kind_of (what_asked (verb_of operation) (form_named known a) (form_named known b)) h)
+    (inputs_asked (verb_of operation) (tree_in (form_named known a) l h (matrix_named known a)) (tree_in (form_named known b) l h (matrix_named known b)))
 work_of_operation Add l h known line c a b = refl
 work_of_operation Mul l h known line c a b = refl
 work_of_operation TMul l h known line c a b = refl
 work_of_operation MulT l h known line c a b = refl
+work_of_operation Square l h known line c a b = refl
+work_of_operation Full l h known line c a b = refl
 
 pub refused_operation : (operation : Operation) (known : List Known) (line : ℕ) (c a b : List ℕ)
-    → is_refused known (Does line (verb_of operation) (c ∷ a ∷ b ∷ [])) ≡ not (is_bounded (verb_of operation) (matrix_named known a) (matrix_named known b))
+    → is_refused known (operation_deed operation line c a b) ≡ not (is_bounded (verb_of operation) (matrix_named known a) (matrix_named known b))
 refused_operation Add known line c a b = refl
 refused_operation Mul known line c a b = refl
 refused_operation TMul known line c a b = refl
 refused_operation MulT known line c a b = refl
+refused_operation Square known line c a b = refl
+refused_operation Full known line c a b = refl
 
 -- the form of the result
-abbrev pub form_of : Operation → Form → Form
-form_of Add form = form
-form_of Mul form = General
-form_of TMul form = General
-form_of MulT form = General
+abbrev pub form_made : Operation → List Known → List ℕ → Form
+form_made operation known a = form_given (verb_of operation) (form_named known a)
 
-pub form_general : (operation : Operation) (form : Form) → form ≡ General → form_of operation form ≡ General
-form_general Add form e = e
-form_general Mul form e = refl
-form_general TMul form e = refl
-form_general MulT form e = refl
+-- the result
+abbrev pub matrix_made : Operation → List Known → List ℕ → List ℕ → Matrix
+matrix_made operation known a b = matrix_given (verb_of operation) (matrix_named known a) (matrix_named known b)
 
 pub after_operation : (operation : Operation) (env : List Bound) (line : ℕ) (c a b : List ℕ) (at : Ref)
-    → env_after env (Does line (verb_of operation) (c ∷ a ∷ b ∷ [])) at
-    ≡ env ++ with_reference at (named_matrix (form_of operation (form_named (known_in env) a)) (matrix_given (verb_of operation) (matrix_named (known_in env) a) (matrix_named (known_in env) b)) c) ∷ []
+    → env_after env (operation_deed operation line c a b) at
+    ≡ env ++ with_reference at (named_matrix (form_made operation (known_in env) a) (matrix_made operation (known_in env) a b) c) ∷ []
 after_operation Add env line c a b at = refl
 after_operation Mul env line c a b at = refl
 after_operation TMul env line c a b at = refl
 after_operation MulT env line c a b at = refl
+after_operation Square env line c a b at = refl
+after_operation Full env line c a b at = refl
+
+-- the trees of its inputs
+inputs_named : (operation : Operation) (seen : Seen MatChunk MatKind) (p q : Ref) → trees_named seen (inputs_asked (verb_of operation) p q)
+    ≡ inputs_asked (verb_of operation) (tree_named seen p) (tree_named seen q)
+inputs_named Add seen p q = refl
+inputs_named Mul seen p q = refl
+inputs_named TMul seen p q = refl
+inputs_named MulT seen p q = refl
+inputs_named Square seen p q = refl
+inputs_named Full seen p q = refl
 
 module _ (operation : Operation) (env : List Bound) (seen : Seen MatChunk MatKind) (held : Held) (a b : List ℕ) (one other : Binding) (is : IsShown seen held env)
     (p : found_in held a ≡ Some one) (q : found_in held b ≡ Some other) where
@@ -232,53 +282,77 @@ module _ (operation : Operation) (env : List Bound) (seen : Seen MatChunk MatKin
   abbrev n : Matrix
   n = matrix_named (known_in env) b
 
+  abbrev f : Form
+  f = form_named (known_in env) a
+
+  abbrev g : Form
+  g = form_named (known_in env) b
+
   -- the test by what is held is that of the meaning
   pub pair_tested : fits_at seen operation one other ≡ is_bounded (verb_of operation) m n
   pair_tested =
-      let f = is_found seen held env a one is p in
-      let g = is_found seen held env b other is q in
-      combined_tested held.leaf held.height operation m n one.rows one.columns (root_peak (tree_named seen one.at)) (root_peak (tree_named seen other.at)) f.rows f.columns
-      (ap root_peak f.tree ∙ tree_peak held.leaf held.height m f.sound) (ap root_peak g.tree ∙ tree_peak held.leaf held.height n g.sound)
+      let x = is_found seen held env a one is p in
+      let y = is_found seen held env b other is q in
+      operation_tested operation m n one.shape.rows one.shape.columns (root_peak (tree_named seen one.at)) (root_peak (tree_named seen other.at))
+      (ap (λ (shape : Shape). shape.rows) x.shape) (ap (λ (shape : Shape). shape.columns) x.shape)
+      (ap root_peak x.tree ∙ tree_peak held.leaf held.height f m x.sound) (ap root_peak y.tree ∙ tree_peak held.leaf held.height g n y.sound)
 
-  fit : shapes_fit (verb_of operation) (shape_at held a) (shape_at held b) ≡ true
-      → shapes_fit (verb_of operation) (general (height m) m.columns) (general (height n) n.columns) ≡ true
+  -- the shapes and forms fit
+  fit : inputs_fit (verb_of operation) (shape_at held a) (shape_at held b) ≡ true
+      → (shapes_fit (verb_of operation) (shape_of f m) (shape_of g n) ≡ true) × (forms_fit (verb_of operation) (shape_of f m) (shape_of g n) ≡ true)
   fit shapes =
-      let f = is_found seen held env a one is p in
-      let g = is_found seen held env b other is q in
-      sym (ap₂ (shapes_fit (verb_of operation)) f.shape g.shape) ∙ shapes
+      let x = is_found seen held env a one is p in
+      let y = is_found seen held env b other is q in
+      both (shapes_fit (verb_of operation) (shape_of f m) (shape_of g n)) (forms_fit (verb_of operation) (shape_of f m) (shape_of g n))
+      (sym (ap₂ (inputs_fit (verb_of operation)) x.shape_seen y.shape_seen) ∙ shapes)
 
-  trees : trees_named seen (one.at ∷ other.at ∷ []) ≡ tree_of held.leaf held.height m ∷ tree_of held.leaf held.height n ∷ []
+  -- the task that is asked, by the forms of what the names mean
+  kind : kind_for held.height operation one other ≡ kind_of (what_asked (verb_of operation) f g) held.height
+  kind =
+      let x = is_found seen held env a one is p in
+      let y = is_found seen held env b other is q in
+      ap₂ (λ (s t : Shape). kind_of (what_asked (verb_of operation) s.form t.form) held.height) x.shape y.shape
+
+  trees : trees_named seen (inputs_for operation one other)
+      ≡ inputs_asked (verb_of operation) (tree_in f held.leaf held.height m) (tree_in g held.leaf held.height n)
   trees =
-      let f = is_found seen held env a one is p in
-      let g = is_found seen held env b other is q in
-      ap₂ (λ s t. s ∷ t ∷ []) f.tree g.tree
+      let x = is_found seen held env a one is p in
+      let y = is_found seen held env b other is q in
+      inputs_named operation seen one.at other.at ∙ ap₂ (inputs_asked (verb_of operation)) x.tree y.tree
 
   -- where it is met the goal is defined
-  pub pair_ready : shapes_fit (verb_of operation) (shape_at held a) (shape_at held b) ≡ true → IsReadyPair seen held.height operation one other
+  pub pair_ready : inputs_fit (verb_of operation) (shape_at held a) (shape_at held b) ≡ true → IsReadyPair seen held.height operation one other
   pair_ready shapes = λ fits.
-      let f = is_found seen held env a one is p in
-      let g = is_found seen held env b other is q in
-      subst (IsDefined (kind_of (what_of operation) held.height)) (sym trees) (record {
+      let x = is_found seen held env a one is p in
+      let y = is_found seen held env b other is q in
+      let both = fit shapes in
+      subst₂ IsDefined (sym kind) (sym trees) (record {
         low = is.low;
         leaf = held.leaf;
         leaf_high = is.leaf_high;
-        fits = combined_fits held.leaf held.height m n f.sound g.sound operation (fit shapes) (sym pair_tested ∙ fits);
+        fits =
+            asked_fits held.leaf held.height (verb_of operation) f g m n x.sound y.sound (operation_asks operation) both.0 both.1
+            (sym pair_tested ∙ fits);
       })
 
   -- and the result is made
-  pub pair_made : (line : ℕ) (c : List ℕ) (now : Seen MatChunk MatKind) (at : Ref) → shapes_fit (verb_of operation) (shape_at held a) (shape_at held b) ≡ true
+  pub pair_made : (line : ℕ) (c : List ℕ) (now : Seen MatChunk MatKind) (at : Ref) → inputs_fit (verb_of operation) (shape_at held a) (shape_at held b) ≡ true
       → Combines seen now held.height operation one other (Ok (Some at))
-      → IsMade held.leaf held.height env (Does line (verb_of operation) (c ∷ a ∷ b ∷ [])) seen now (matrix_given (verb_of operation) m n) at
+      → IsMade held.leaf held.height env (operation_deed operation line c a b) seen now (form_made operation (known_in env) a) (matrix_made operation (known_in env) a b) at
   pair_made line c now at shapes (fits, got) =
-      let f = is_found seen held env a one is p in
-      let g = is_found seen held env b other is q in
+      let x = is_found seen held env a one is p in
+      let y = is_found seen held env b other is q in
+      let both = fit shapes in
       let l = held.leaf in
       let h = held.height in
-      let kind = kind_of (what_of operation) h in
-      let made = matrix_given (verb_of operation) m n in
-      let result = combined_sound l h m n f.sound g.sound operation (fit shapes) (sym pair_tested ∙ fits) in
-      let goal = ap (goal_of kind) trees ∙ result.1 in
-      let events = Ask seen.caller got.task kind (one.at ∷ other.at ∷ []) ∷ Collect seen.caller got.task at ∷ [] in
+      let asked = kind_for h operation one other in
+      let verb = verb_of operation in
+      let form = form_made operation (known_in env) a in
+      let made = matrix_made operation (known_in env) a b in
+      let result = asked_sound l h verb f g m n x.sound y.sound (operation_asks operation) both.0 both.1 (sym pair_tested ∙ fits) in
+      let goal = ap₂ goal_of kind trees ∙ result.1 in
+      let inputs = inputs_for operation one other in
+      let events = Ask seen.caller got.task asked inputs ∷ Collect seen.caller got.task at ∷ [] in
       record {
         names = subst (λ tree. IsGiven seen.names tree at now.names) goal got.names;
         asks = got.asks;
@@ -287,40 +361,45 @@ module _ (operation : Operation) (env : List Bound) (seen : Seen MatChunk MatKin
         events = events;
         program =
             of_operation operation seen.caller h env line c a b at events
-            (subst₂ (λ r s. AreOfAsk seen.caller kind (r ∷ s ∷ []) (is_zero made) at events) (sym f.reference) (sym g.reference)
-            (subst (λ t. IsNullIf t at) (tree_null l h made result.0) (output_null seen (tree_of l h made) at (subst (λ tree. IsOutput seen tree at) goal got.output)), got.task, refl));
+            (subst₂ (λ k rs. AreOfAsk seen.caller k rs (is_zero made) at events) kind (ap₂ (inputs_asked verb) (sym x.reference) (sym y.reference))
+            (subst (λ t. IsNullIf t at) (tree_null l h form made result.0) (output_null seen (tree_in form l h made) at (subst (λ tree. IsOutput seen tree at) goal got.output)), got.task, refl));
         told = got.told;
-        account = got.account ∙ ap (λ ts. seen.account + work_of kind ts) trees ∙ ap (λ k. seen.account + k) (sym (work_of_operation operation l h (known_in env) line c a b));
+        account =
+            got.account ∙ ap₂ (λ k ts. seen.account + work_of k ts) kind trees
+            ∙ ap (λ k. seen.account + k) (sym (work_of_operation operation l h (known_in env) line c a b));
       }
 
 -- ---- A list
 
 pub market_made : (env : List Bound) (line : ℕ) (c : List ℕ) (form : Form) (m : Matrix) (seen now : Seen MatChunk MatKind) (held : Held) (entries : Option Entries) (at : Ref)
-    → form ≡ General → IsMatrix m → height m ≤ side_of held.leaf held.height → m.columns ≤ side_of held.leaf held.height
-    → IsListOf held.leaf held.height m entries → AssignsAny seen now entries (Ok at)
-    → IsMade held.leaf held.height env (Lists line c form m) seen now m at
-market_made env line c form m seen now held None at general whole rows columns listed (null, same) =
+    → IsMatrix m → height m ≤ side_of held.leaf held.height → m.columns ≤ side_of held.leaf held.height → (form ≡ Symmetric → height m ≡ m.columns)
+    → IsListIn form held.leaf held.height m entries → AssignsAny seen now form entries (Ok at)
+    → IsMade held.leaf held.height env (Lists line c form m) seen now form m at
+market_made env line c form m seen now held None at whole rows columns formed listed (null, same) =
     let l = held.leaf in
     let h = held.height in
-    let empty = empty_sound l h m whole rows columns listed in
+    let empty = empty_sound l h form m whole rows columns formed listed in
+    let zero = eq-eqb (peak_of m) 0 listed in
     record {
-      names = subst (λ r. IsGiven seen.names (tree_of l h m) r now.names) (sym null) (empty.1, ap (λ (s : Seen MatChunk MatKind). s.names) same);
+      names = subst (λ r. IsGiven seen.names (tree_in form l h m) r now.names) (sym null) (empty.1, ap (λ (s : Seen MatChunk MatKind). s.names) same);
       asks = ap (λ (s : Seen MatChunk MatKind). s.asks) same;
       caller = ap (λ (s : Seen MatChunk MatKind). s.caller) same;
       sound = empty.0;
       events = [];
-      program = subst (λ form. AreOfMarket seen.caller h form m at []) (sym general) (subst (λ t. AreOfList seen.caller h t at []) (sym empty.2) (null, refl));
+      program = subst (λ t. AreOfList seen.caller (kind_of (what_listed form) h) t at []) (sym zero) (null, refl);
       told = ap (λ (s : Seen MatChunk MatKind). s.events) same ∙ sym (append-nil seen.events);
-      account = ap (λ (s : Seen MatChunk MatKind). s.account) same ∙ sym (none seen.account (work_of_list l h m) (ap (λ t. cond t 0 (assign_work l h (completed (side_of l h) m))) empty.2));
+      account =
+          ap (λ (s : Seen MatChunk MatKind). s.account) same
+          ∙ sym (none seen.account (work_listed form l h m) (ap (λ t. cond t 0 (list_work form l h (completed (side_of l h) m))) zero));
     }
   where
     none : (n k : ℕ) → k ≡ 0 → n + k ≡ n
     none n k e = omega arith
-market_made env line c form m seen now held (Some entries) at general whole rows columns listed got =
+market_made env line c form m seen now held (Some entries) at whole rows columns formed listed got =
     let l = held.leaf in
     let h = held.height in
-    let made = listed_sound l h m entries whole rows columns listed in
-    let some = listed_some l h m entries whole rows columns listed in
+    let made = listed_sound l h form m entries whole rows columns formed listed in
+    let some = listed_some l h form m entries whole rows columns listed in
     record {
       names = subst (λ tree. IsGiven seen.names tree at now.names) made.1 got.names;
       asks = got.asks;
@@ -328,10 +407,9 @@ market_made env line c form m seen now held (Some entries) at general whole rows
       sound = made.0;
       events = got.events;
       program =
-          subst (λ form. AreOfMarket seen.caller h form m at got.events) (sym general)
-          (subst₂ (λ k t. AreOfList seen.caller k t at got.events) listed.0.height (sym some) got.of_list);
+          subst₂ (λ k t. AreOfList seen.caller (kind_of (what_listed form) k) t at got.events) listed.0.height (sym some) got.of_list;
       told = got.told;
-      account = got.account ∙ ap (λ k. seen.account + k) (listed_work l h m entries some listed);
+      account = got.account ∙ ap (λ k. seen.account + k) (listed_work l h form m entries some listed);
     }
 
 -- ---- A delete

@@ -15,7 +15,7 @@ use Rattle.cht_script.proofs.Newest.{newest-push}
 use Rattle.task_types.specs.Tree.{Tree}
 use Rattle.quad_matrix.specs.declared.chunk.MatChunk.{MatChunk}
 use Rattle.cht_session.specs.Program.{Bound, is_bound_as, left_without, references, identifiers}
-use Rattle.cht_session.specs.Works.{tree_of}
+use Rattle.cht_session.specs.Forms.{tree_in}
 use Rattle.cht_session.specs.Held.{Names, IsNameOf, without, AreKept, AreAll}
 use Rattle.cht_session.specs.Given.{IsGiven}
 use Rattle.cht_session.proofs.Identifiers.{named_given, given_without, given_here, named_before, named_apart, named_after, without_both, named_is_held}
@@ -25,7 +25,7 @@ use Rattle.cht_session.proofs.Order.{strike_ref, struck_here, struck_later}
 module _ (b h : ℕ) where
   -- the tree of a name
   abbrev tree_of_bound : Bound → Tree MatChunk
-  tree_of_bound one = tree_of b h one.known.matrix
+  tree_of_bound one = tree_in one.known.form b h one.known.matrix
 
   -- ---- One more name
 

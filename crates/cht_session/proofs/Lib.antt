@@ -1,4 +1,5 @@
 pub mod ListedEntries
+pub mod MirroredEntries
 pub mod Identifiers
 pub mod Bindings
 pub mod Order
@@ -6,7 +7,10 @@ pub mod Kept
 pub mod Asked
 pub mod Assigned
 pub mod Completed
-pub mod Matrices
+pub mod FormTrees
+pub mod FormLists
+pub mod FormVerbs
+pub mod Tests
 pub mod Shown
 pub mod Effects
 pub mod Doing

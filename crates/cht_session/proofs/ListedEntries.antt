@@ -1,6 +1,7 @@
 -- The entries of a market as a list for a quadtree.
-use Rattle.std.proofs.Common.{◌≡◌, ◌⊎◌, inl, inr, ℕ, zero, suc, ◌+◌, ◌-◌, ◌*◌, ◌^◌, ◌<◌, ◌≤◌, true, false, ◌&&◌, ◌==◌, List, [], ◌∷◌, ◌++◌, length, length-append, get_or, map, All, ℤ, pos, refl, sym, ap, ap₂, ◌∙◌, subst, arith}
-use Rattle.std.specs.Prelude.{nat_lt, None, Some}
+use Rattle.std.proofs.Common.{◌≡◌, ◌⊎◌, inl, inr, ℕ, zero, suc, ◌+◌, ◌-◌, ◌*◌, ◌^◌, ◌<◌, ◌≤◌, Bool, true, false, ◌&&◌, ◌==◌, List, [], ◌∷◌, ◌++◌, length, length-append, get_or, map, All, ℤ, pos, refl, sym, ap, ◌∙◌, subst, arith}
+use Rattle.std.specs.Prelude.{nat_lt}
+use Rattle.std.specs.List.{filter}
 use Rattle.std.proofs.lemmas.Bool.{true≢false, cases_lt, cond_both, cond-false, and_from, and_left, and_right, or_left, or_right, lt-ltb, eq-eqb, ne_eqb}
 use Rattle.std.proofs.lemmas.Bool.Decides.{nat_tests}
 use Rattle.std.proofs.Math.Nat.{min-le_left, min-le_right, suc-mul}
@@ -11,30 +12,30 @@ use Rattle.dense_def.specs.Matrix.{completed, entry, made, tabulate, peak_of}
 use Rattle.dense_def.proofs.Entries.{length-tabulate, get_or-tabulate, entry_made, made_ext}
 use Rattle.mm_text.specs.declared.market.Cell.{Cell}
 use Rattle.mm_text.specs.declared.market.Entry.{Entry}
-use Rattle.mm_text.specs.declared.market.Form.TheVariants.{General}
+use Rattle.mm_text.specs.declared.market.Form.{Form}
+use Rattle.mm_text.specs.declared.market.Form.TheVariants.{General, Symmetric}
 use Rattle.mm_text.specs.declared.market.Market.{Market}
-use Rattle.mm_text.specs.Block.{names, value_at, matrix_listed}
-use Rattle.mm_text.specs.Cells.{is_zero, cells_of_row, cells_of_rows, cells_of, cells_listed, entry_cells}
-use Rattle.chunk_codec.specs.declared.plain.Spot.{Spot}
-use Rattle.chunk_codec.specs.Spots.{side_of, stands_before, spots_rise, IsSpot}
+use Rattle.mm_text.specs.Block.{names, value_at, number_listed, matrix_listed}
+use Rattle.mm_text.specs.Cells.{is_zero, cells_of_row, cells_of_rows, cells_of, cells_listed, is_low, cell_of, entry_cells}
+use Rattle.chunk_codec.specs.Spots.{stands_before, spots_rise, IsSpot}
 use Rattle.quad_matrix.specs.Spots.{spot_value, block_of_spots}
 use Rattle.quad_matrix.proofs.ForOthers.{peak-zeros}
-use Rattle.cht_script.specs.Reading.{IsGoodMarket, matrix_of_market}
-use Rattle.cht_session.specs.Listed.{most_listed, IsListOf, spot_of, IsCounted, HasSmallValue}
+use Rattle.cht_script.specs.Reading.{IsGoodMarket}
+use Rattle.cht_session.specs.Listed.{most_listed, spot_of, spot_in, IsCounted, HasSmallValue}
 
 -- ---- The cells of a made matrix
 
 -- a cell at row i and column j or after it, within a matrix whose rows and columns count from 1, and not zero
-record IsCellFrom (rows columns i j : ℕ) (c : Cell) : Type 0 where
-  place : (i < c.row) ⊎ ((i ≡ c.row) × (j ≤ c.column))
-  top : 1 ≤ c.row
-  bottom : c.row ≤ rows
-  left : 1 ≤ c.column
-  right : c.column ≤ columns
-  value : is_zero c.value ≡ false
+pub record IsCellFrom (rows columns i j : ℕ) (c : Cell) : Type 0 where
+  pub place : (i < c.row) ⊎ ((i ≡ c.row) × (j ≤ c.column))
+  pub top : 1 ≤ c.row
+  pub bottom : c.row ≤ rows
+  pub left : 1 ≤ c.column
+  pub right : c.column ≤ columns
+  pub value : is_zero c.value ≡ false
 
 -- cells from row i and column j on, each after the one before it
-abbrev AreFrom : ℕ → ℕ → ℕ → ℕ → List Cell → Type 0
+abbrev pub AreFrom : ℕ → ℕ → ℕ → ℕ → List Cell → Type 0
 AreFrom rows columns i j [] = Unit {0}
 AreFrom rows columns i j (c ∷ cells) = IsCellFrom rows columns i j c × AreFrom rows columns c.row (c.column + 1) cells
 
@@ -69,27 +70,35 @@ rows_from rows columns (suc n) i g top reach =
 made_from : (rows columns : ℕ) (f : ℕ → ℕ → ℤ) → AreFrom rows columns 1 1 (cells_of (made rows columns f))
 made_from rows columns f = rows_from rows columns rows 1 f (omega arith) (omega arith)
 
--- the matrix of a market in the general form
-market_matrix : (market : Market) → market.form ≡ General
-    → matrix_of_market market ≡ made market.rows market.columns (λ i j. value_at market.entries (i + 1) (j + 1))
-market_matrix market general = ap (λ form. matrix_listed form market.rows market.columns market.entries) general
+-- cells that are left of such ones
+AreFrom-filter : (rows columns i j : ℕ) (test : Cell → Bool) (cells : List Cell) → AreFrom rows columns i j cells → AreFrom rows columns i j (filter test cells)
+AreFrom-filter rows columns i j test [] from = tt
+AreFrom-filter rows columns i j test (c ∷ cells) from =
+    let more = AreFrom-filter rows columns c.row (c.column + 1) test cells from.1 in
+    let place = from.0.place in
+    cond_both (test c) (c ∷ filter test cells) (filter test cells) (AreFrom rows columns i j)
+    (λ e. (from.0, more))
+    (λ e. AreFrom-earlier rows columns i j c.row (c.column + 1) (filter test cells) (grind arith) more)
 
--- the entries of a good market are such cells
-market_from : (grid : ℕ) (market : Market) → IsGoodMarket grid market → market.form ≡ General → AreFrom market.rows market.columns 1 1 (entry_cells market.entries)
-market_from grid market good general =
-    subst (AreFrom market.rows market.columns 1 1) (sym (good.entries ∙ ap₂ cells_listed general (market_matrix market general)))
-    (made_from market.rows market.columns (λ i j. value_at market.entries (i + 1) (j + 1)))
+-- the entries by which a form lists a matrix are such cells
+pub entries_from : (form : Form) (rows columns : ℕ) (es : List Entry) → entry_cells es ≡ cells_listed form (matrix_listed form rows columns es) → AreFrom rows columns 1 1 (entry_cells es)
+entries_from General rows columns es same =
+    subst (AreFrom rows columns 1 1) (sym same) (made_from rows columns (λ i j. number_listed General es (i + 1) (j + 1)))
+entries_from Symmetric rows columns es same =
+    let f : ℕ → ℕ → ℤ = λ i j. number_listed Symmetric es (i + 1) (j + 1) in
+    subst (AreFrom rows columns 1 1) (sym same) (AreFrom-filter rows columns 1 1 is_low (cells_of (made rows columns f)) (made_from rows columns f))
 
 -- ---- Entries counted from 1
 
-entries_counted : (rows columns i j : ℕ) (es : List Entry) → AreFrom rows columns i j (entry_cells es) → All IsCounted es
+pub entries_counted : (rows columns i j : ℕ) (es : List Entry) → AreFrom rows columns i j (entry_cells es) → All IsCounted es
 entries_counted rows columns i j [] from = All-nil IsCounted
 entries_counted rows columns i j (e ∷ es) from =
     All-cons IsCounted e es (from.0.top, from.0.left) (entries_counted rows columns e.row (e.column + 1) es from.1)
 
 -- rows and columns of a good market count from 1
-pub market_counted : (grid : ℕ) (market : Market) → IsGoodMarket grid market → market.form ≡ General → All IsCounted market.entries
-market_counted grid market good general = entries_counted market.rows market.columns 1 1 market.entries (market_from grid market good general)
+pub market_counted : (grid : ℕ) (market : Market) → IsGoodMarket grid market → All IsCounted market.entries
+market_counted grid market good =
+    entries_counted market.rows market.columns 1 1 market.entries (entries_from market.form market.rows market.columns market.entries good.entries)
 
 -- an entry that lies within the matrix names no place outside
 names_inside : (e : Entry) (a b : ℕ) → (e.row < a) ⊎ (e.column < b) → names a b e ≡ false
@@ -100,7 +109,7 @@ names_inside e a b apart =
     ]
 
 -- so the value there is 0
-value_outside : (rows columns i j : ℕ) (es : List Entry) → AreFrom rows columns i j (entry_cells es) → (a b : ℕ) → (rows < a) ⊎ (columns < b) → value_at es a b ≡ pos 0
+pub value_outside : (rows columns i j : ℕ) (es : List Entry) → AreFrom rows columns i j (entry_cells es) → (a b : ℕ) → (rows < a) ⊎ (columns < b) → value_at es a b ≡ pos 0
 value_outside rows columns i j [] from a b outside = refl
 value_outside rows columns i j (e ∷ es) from a b outside =
     let bottom = from.0.bottom in
@@ -136,7 +145,7 @@ moved_before e f top left place =
     ]
 
 -- so the list rises
-moved_rise : (rows columns i j : ℕ) (es : List Entry) → AreFrom rows columns i j (entry_cells es) → spots_rise (map spot_of es) ≡ true
+pub moved_rise : (rows columns i j : ℕ) (es : List Entry) → AreFrom rows columns i j (entry_cells es) → spots_rise (map spot_of es) ≡ true
 moved_rise rows columns i j [] from = refl
 moved_rise rows columns i j (e ∷ []) from = refl
 moved_rise rows columns i j (e ∷ f ∷ es) from =
@@ -147,26 +156,39 @@ moved_rise rows columns i j (e ∷ f ∷ es) from =
 not_zero : (z : ℤ) → is_zero z ≡ false → z ≡ pos 0 → ⊥
 not_zero z some none = true≢false (sym (ap is_zero none) ∙ some)
 
--- each is an entry of a block that holds the matrix
-moved_spots : (side rows columns i j : ℕ) (es : List Entry) → rows ≤ side → columns ≤ side → AreFrom rows columns i j (entry_cells es) → All HasSmallValue (map spot_of es)
-    → All (IsSpot side) (map spot_of es)
-moved_spots side rows columns i j [] tall wide from small = All-nil (IsSpot side)
-moved_spots side rows columns i j (e ∷ es) tall wide from small =
-    let cell = from.0 in
-    All-cons (IsSpot side) (spot_of e) (map spot_of es)
-    (record {
+-- an entry of a block that holds the matrix
+spot_is : (form : Form) (side rows columns i j : ℕ) (e : Entry) → rows ≤ side → columns ≤ side → IsCellFrom rows columns i j (cell_of e) → HasSmallValue (spot_in form e)
+    → IsSpot side (spot_in form e)
+spot_is General side rows columns i j e tall wide cell small =
+    record {
       row = omega (arith, cell.top, cell.bottom);
       column = omega (arith, cell.left, cell.right);
       value = not_zero e.value cell.value;
-      small = (All-head HasSmallValue (spot_of e) (map spot_of es) small).0;
-      below = (All-head HasSmallValue (spot_of e) (map spot_of es) small).1;
-    })
-    (moved_spots side rows columns e.row (e.column + 1) es tall wide from.1 (All-tail HasSmallValue (spot_of e) (map spot_of es) small))
+      small = small.0;
+      below = small.1;
+    }
+spot_is Symmetric side rows columns i j e tall wide cell small =
+    record {
+      row = omega (arith, cell.left, cell.right);
+      column = omega (arith, cell.top, cell.bottom);
+      value = not_zero e.value cell.value;
+      small = small.0;
+      below = small.1;
+    }
+
+-- each is so
+pub moved_spots : (form : Form) (side rows columns i j : ℕ) (es : List Entry) → rows ≤ side → columns ≤ side → AreFrom rows columns i j (entry_cells es) → All HasSmallValue (map (spot_in form) es)
+    → All (IsSpot side) (map (spot_in form) es)
+moved_spots form side rows columns i j [] tall wide from small = All-nil (IsSpot side)
+moved_spots form side rows columns i j (e ∷ es) tall wide from small =
+    All-cons (IsSpot side) (spot_in form e) (map (spot_in form) es)
+    (spot_is form side rows columns i j e tall wide from.0 (All-head HasSmallValue (spot_in form e) (map (spot_in form) es) small))
+    (moved_spots form side rows columns e.row (e.column + 1) es tall wide from.1 (All-tail HasSmallValue (spot_in form e) (map (spot_in form) es) small))
 
 -- ---- The block of the list
 
 -- the number of a made matrix at any place, where it is made of zeros outside
-entry_anywhere : (rows columns : ℕ) (f : ℕ → ℕ → ℤ) → ((i j : ℕ) → (rows ≤ i) ⊎ (columns ≤ j) → f i j ≡ pos 0) → (i j : ℕ) → entry (made rows columns f) i j ≡ f i j
+pub entry_anywhere : (rows columns : ℕ) (f : ℕ → ℕ → ℤ) → ((i j : ℕ) → (rows ≤ i) ⊎ (columns ≤ j) → f i j ≡ pos 0) → (i j : ℕ) → entry (made rows columns f) i j ≡ f i j
 entry_anywhere rows columns f outside i j =
     let row : ℕ → List ℤ = λ p. tabulate columns (λ q. f p q) in
     elim (cases_lt i rows) [
@@ -182,7 +204,7 @@ entry_anywhere rows columns f outside i j =
     ]
 
 -- the block of the list is the matrix, completed by zeros
-block_of_moved : (side rows columns : ℕ) (es : List Entry) → AreFrom rows columns 1 1 (entry_cells es)
+pub block_of_moved : (side rows columns : ℕ) (es : List Entry) → AreFrom rows columns 1 1 (entry_cells es)
     → block_of_spots side (map spot_of es) ≡ completed side (made rows columns (λ i j. value_at es (i + 1) (j + 1)))
 block_of_moved side rows columns es from =
     let f : ℕ → ℕ → ℤ = λ i j. value_at es (i + 1) (j + 1) in
@@ -195,16 +217,14 @@ block_of_moved side rows columns es from =
 -- ---- The list of a market
 
 -- where there is no entry all numbers are 0
-no_entries : (rows columns : ℕ) (es : List Entry) → length es ≡ 0 → peak_of (made rows columns (λ i j. value_at es (i + 1) (j + 1))) ≡ 0
-no_entries rows columns [] none = peak-zeros rows columns
-no_entries rows columns (e ∷ es) none = absurd (omega arith)
+pub no_entries : (form : Form) (rows columns : ℕ) (es : List Entry) → length es ≡ 0 → peak_of (matrix_listed form rows columns es) ≡ 0
+no_entries General rows columns [] none = peak-zeros rows columns
+no_entries Symmetric rows columns [] none = peak-zeros rows columns
+no_entries form rows columns (e ∷ es) none = absurd (omega arith)
 
-pub nothing_listed : (b h : ℕ) (market : Market) → market.form ≡ General → length market.entries ≡ 0 → IsListOf b h (matrix_of_market market) None
-nothing_listed b h market general none = ap peak_of (market_matrix market general) ∙ no_entries market.rows market.columns market.entries none
-
-length_moved : (es : List Entry) → length (map spot_of es) ≡ length es
-length_moved [] = refl
-length_moved (e ∷ es) = ap suc (length_moved es)
+pub length_moved : (form : Form) (es : List Entry) → length (map (spot_in form) es) ≡ length es
+length_moved form [] = refl
+length_moved form (e ∷ es) = ap suc (length_moved form es)
 
 -- what lies within the most that is listed lies within the side
 pub listed_side : (side n : ℕ) → n ≤ most_listed side → n ≤ side
@@ -232,38 +252,22 @@ length_cells : (es : List Entry) → length (entry_cells es) ≡ length es
 length_cells [] = refl
 length_cells (e ∷ es) = ap suc (length_cells es)
 
--- a good market has fewer than 2 ^ 32 entries
-market_few : (side : ℕ) (market : Market) → IsGoodMarket (most_listed side) market → market.form ≡ General → length market.entries < 2 ^ 32
-market_few side market good general =
-    let f : ℕ → ℕ → ℤ = λ i j. value_at market.entries (i + 1) (j + 1) in
-    let same = good.entries ∙ ap₂ cells_listed general (market_matrix market general) in
-    let places = mul-le market.rows market.columns 4096 4096 (omega (arith, good.rows.1, min-le_left 4096 side)) (omega (arith, good.columns.1, min-le_left 4096 side)) in
-    omega (arith, length_cells market.entries, ap length same, rows_few market.columns market.rows 1 f, places)
+-- what is left of a list is no longer than it
+left_few : (test : Cell → Bool) (cells : List Cell) → length (filter test cells) ≤ length cells
+left_few test [] = omega arith
+left_few test (c ∷ cells) =
+    let more = left_few test cells in
+    cond_both (test c) (c ∷ filter test cells) (filter test cells) (λ cs. length cs ≤ suc (length cells)) (λ e. omega arith) (λ e. omega arith)
 
--- the entries of a good market, moved, are a sound list of its matrix
-pub market_listed : (b h : ℕ) (market : Market) (spots : List Spot) → IsGoodMarket (most_listed (side_of b h)) market → market.form ≡ General → 1 ≤ b → b ≤ 64 → h ≤ 16 → (length market.entries ≡ 0 → ⊥)
-    → spots ≡ map spot_of market.entries → All HasSmallValue spots
-    → IsListOf b h (matrix_of_market market) (Some (record { leaf = b; height = h; symmetric = false; list = spots }))
-market_listed b h market spots good general leaf_low leaf_high low some moved small =
-    let side = side_of b h in
-    let es = market.entries in
-    let from = market_from (most_listed side) market good general in
-    let all : All HasSmallValue (map spot_of es) = subst (All HasSmallValue) moved small in
-    subst (λ (xs : List Spot). IsListOf b h (matrix_of_market market) (Some (record { leaf = b; height = h; symmetric = false; list = xs }))) (sym moved) (
-      record {
-        leaf = refl;
-        height = refl;
-        symmetric = refl;
-        listed = record {
-          leaf_low = leaf_low;
-          leaf_high = leaf_high;
-          low = low;
-          some = omega (arith, length_moved es);
-          few = omega (arith, length_moved es, market_few side market good general);
-          rising = moved_rise market.rows market.columns 1 1 es from;
-          spots = moved_spots side market.rows market.columns 1 1 es (listed_side side market.rows good.rows.1) (listed_side side market.columns good.columns.1) from all;
-          upper = λ never. absurd (true≢false (sym never));
-        };
-      },
-      block_of_moved side market.rows market.columns es from ∙ ap (completed side) (sym (market_matrix market general)),
-    )
+listed_few : (form : Form) (rows columns : ℕ) (es : List Entry) → length (cells_listed form (matrix_listed form rows columns es)) ≤ rows * columns
+listed_few General rows columns es = rows_few columns rows 1 (λ i j. number_listed General es (i + 1) (j + 1))
+listed_few Symmetric rows columns es =
+    let f : ℕ → ℕ → ℤ = λ i j. number_listed Symmetric es (i + 1) (j + 1) in
+    let left = left_few is_low (cells_of (made rows columns f)) in
+    omega (arith, rows_few columns rows 1 f)
+
+-- a good market has fewer than 2 ^ 32 entries
+pub market_few : (side : ℕ) (market : Market) → IsGoodMarket (most_listed side) market → length market.entries < 2 ^ 32
+market_few side market good =
+    let places = mul-le market.rows market.columns 4096 4096 (omega (arith, good.rows.1, min-le_left 4096 side)) (omega (arith, good.columns.1, min-le_left 4096 side)) in
+    omega (arith, length_cells market.entries, ap length good.entries, listed_few market.form market.rows market.columns market.entries, places)

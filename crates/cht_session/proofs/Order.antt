@@ -8,6 +8,7 @@ use Rattle.name_states.proofs.Basics.{test_same, test_apart, same_some}
 use Rattle.cht_ids.specs.declared.refs.Ref.{Ref}
 use Rattle.cht_ids.specs.declared.refs.Id.{Id}
 use Rattle.cht_ids.specs.declared.refs.Ref.TheVariants.{Null, Id as HeldId}
+use Rattle.cht_script.specs.declared.checked.Shape.{Shape}
 use Rattle.cht_session.specs.declared.held.Binding.{Binding}
 use Rattle.cht_session.specs.declared.held.Held.{Held}
 use Rattle.cht_session.specs.Bindings.{found_in, Puts, IsAdded, IsOrdered}
@@ -71,10 +72,10 @@ module _ (held later : Held) (name : List ℕ) where
   none_case false other o e = (refl, e)
 
   -- one more name
-  pub ordered_added : (rows columns : ℕ) (at : Ref) → IsOrdered held → IsAdded held name rows columns at later → later.order.items ≡ held.order.items ++ at ∷ [] → IsOrdered later
-  ordered_added rows columns at ordered added order =
+  pub ordered_added : (shape : Shape) (at : Ref) → IsOrdered held → IsAdded held name shape at later → later.order.items ≡ held.order.items ++ at ∷ [] → IsOrdered later
+  ordered_added shape at ordered added order =
       let n = length held.order.items in
-      let one : Binding = record { rows = rows; columns = columns; at = at; number = n } in
+      let one : Binding = record { shape = shape; at = at; number = n } in
       let was = λ (other : List ℕ) (x : Binding) (e : found_in later other ≡ Some x).
       found_case (bytes_eq name other) one x (found_in held other) (sym (added other) ∙ e) in
       record {

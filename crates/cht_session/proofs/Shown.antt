@@ -3,27 +3,26 @@ use Rattle.std.proofs.Common.{◌≡◌, ℕ, Bool, true, false, cond, List, [],
 use Rattle.std.specs.Prelude.{IfSome, option_map, slice_get, slice_set}
 use Rattle.std.specs.FinMap as map
 use Rattle.std.specs.Str.{bytes_eq}
-use Rattle.dense_def.specs.Matrix.{Matrix, height}
+use Rattle.dense_def.specs.Matrix.{Matrix}
 use Rattle.cht_ids.specs.declared.refs.Id.{Id}
 use Rattle.cht_ids.specs.declared.refs.Ref.{Ref}
 use Rattle.cht_ids.specs.declared.refs.Ref.TheVariants.{Null}
 use Rattle.cht_engine.specs.Seen.{Seen, MayMention, tree_named}
 use Rattle.quad_matrix.specs.declared.chunk.MatChunk.{MatChunk}
 use Rattle.quad_matrix.specs.declared.kind.MatKind.{MatKind}
-use Rattle.mm_text.specs.declared.market.Form.TheVariants.{General}
+use Rattle.mm_text.specs.declared.market.Form.{Form}
 use Rattle.cht_script.specs.declared.checked.Shape.{Shape}
 use Rattle.cht_script.specs.Newest.{newest}
 use Rattle.cht_script.specs.Meaning.{matrix_named, form_named, matrix_found, form_found, named_matrix}
-use Rattle.cht_script.specs.Statements.{general}
 use Rattle.cht_script.proofs.Newest.{newest-push}
 use Rattle.cht_session.specs.declared.held.Binding.{Binding}
 use Rattle.cht_session.specs.declared.held.Held.{Held}
 use Rattle.cht_session.specs.Bindings.{found_in, shape_found, shape_at, IsSameHeld, Puts, IsAdded}
 use Rattle.cht_session.specs.Program.{Bound, known_in, is_bound_as, left_without, references, identifiers, reference_named, reference_found, with_reference}
-use Rattle.cht_session.specs.Works.{tree_of}
-use Rattle.cht_session.specs.Held.{Finds, IsNameOf, without, AreKept, AreAll, IsSoundMatrix, IsSoundBound, IsShown, IsLeft}
+use Rattle.cht_session.specs.Forms.{tree_in, IsSoundIn, shape_of}
+use Rattle.cht_session.specs.Held.{Finds, IsNameOf, without, AreKept, AreAll, IsSoundBound, IsShown, IsLeft}
 use Rattle.cht_session.specs.Given.{IsGiven, IsUndone}
-use Rattle.cht_session.specs.Running.{IsGoing}
+use Rattle.cht_session.specs.Running.{shape_named, IsGoing}
 use Rattle.cht_session.proofs.Asked.{named_mentioned, named_seen}
 use Rattle.cht_session.proofs.Bindings.{known_newest, newest_left, finds_case, finds_none, finds_some, finds_nothing}
 use Rattle.cht_session.proofs.Order.{identifiers_append, references_append, strike_ref, ordered_added, ordered_ended}
@@ -89,14 +88,12 @@ pub record IsFoundIn (seen : Seen MatChunk MatKind) (held : Held) (env : List Bo
   pub bound : Bound
   pub newest_is : newest (is_bound_as name) env ≡ Some bound
   pub at : one.at ≡ bound.at
-  pub sound : IsSoundMatrix held.leaf held.height (matrix_named (known_in env) name)
-  pub rows : one.rows ≡ height (matrix_named (known_in env) name)
-  pub columns : one.columns ≡ (matrix_named (known_in env) name).columns
-  pub form : form_named (known_in env) name ≡ General
+  pub sound : IsSoundIn (form_named (known_in env) name) held.leaf held.height (matrix_named (known_in env) name)
+  pub shape : one.shape ≡ shape_named (known_in env) name
   pub reference : reference_named env name ≡ one.at
   pub mentioned : MayMention seen one.at
-  pub tree : tree_named seen one.at ≡ tree_of held.leaf held.height (matrix_named (known_in env) name)
-  pub shape : shape_at held name ≡ general (height (matrix_named (known_in env) name)) (matrix_named (known_in env) name).columns
+  pub tree : tree_named seen one.at ≡ tree_in (form_named (known_in env) name) held.leaf held.height (matrix_named (known_in env) name)
+  pub shape_seen : shape_at held name ≡ shape_named (known_in env) name
 
 pub is_found : (seen : Seen MatChunk MatKind) (held : Held) (env : List Bound) (name : List ℕ) (one : Binding) → IsShown seen held env → found_in held name ≡ Some one
     → IsFoundIn seen held env name one
@@ -105,25 +102,23 @@ is_found seen held env name one is found =
     let bound = some.0 in
     let b = held.leaf in
     let h = held.height in
-    let tree = tree_of b h bound.known.matrix in
+    let tree = tree_in bound.known.form b h bound.known.matrix in
     let sound = subst (λ o. IfSome o (IsSoundBound b h)) some.1 (is.sound name) in
     let named = subst (λ r. IsNameOf seen.names tree r) (sym some.2.at) (kept_found b h seen.names env name bound is.kept some.1) in
     let known = known_newest name env ∙ ap (option_map (λ (one : Bound). one.known)) some.1 in
     let m : matrix_named (known_in env) name ≡ bound.known.matrix = ap matrix_found known in
+    let f : form_named (known_in env) name ≡ bound.known.form = ap form_found known in
+    let shape = some.2.shape ∙ ap₂ shape_of (sym f) (sym m) in
     record {
       bound = bound;
       newest_is = some.1;
       at = some.2.at;
-      sound = subst (IsSoundMatrix b h) (sym m) sound.matrix;
-      rows = some.2.rows ∙ ap height (sym m);
-      columns = some.2.columns ∙ ap (λ (m : Matrix). m.columns) (sym m);
-      form = ap form_found known ∙ sound.general;
+      sound = subst₂ (λ form m. IsSoundIn form b h m) (sym f) (sym m) sound;
+      shape = shape;
       reference = ap reference_found some.1 ∙ sym some.2.at;
       mentioned = named_mentioned seen tree one.at named;
-      tree = named_seen seen tree one.at named ∙ ap (tree_of b h) (sym m);
-      shape =
-          ap shape_found found ∙ ap₂ (λ r c. let shape : Shape = general r c in shape) some.2.rows some.2.columns
-          ∙ ap (λ (m : Matrix). general (height m) m.columns) (sym m);
+      tree = named_seen seen tree one.at named ∙ ap₂ (λ form m. tree_in form b h m) (sym f) (sym m);
+      shape_seen = ap shape_found found ∙ shape;
     }
 
 -- ---- One more name
@@ -133,23 +128,22 @@ sound_case b h true one o is others = is
 sound_case b h false one o is others = others
 
 -- a name that was not bound is bound to a reference that came
-pub shown_added : (seen now : Seen MatChunk MatKind) (held later : Held) (env : List Bound) (name : List ℕ) (rows columns : ℕ) (at : Ref) (m : Matrix)
+pub shown_added : (seen now : Seen MatChunk MatKind) (held later : Held) (env : List Bound) (name : List ℕ) (shape : Shape) (at : Ref) (form : Form) (m : Matrix)
     → IsShown seen held env
     → found_in held name ≡ None
-    → IsGiven seen.names (tree_of held.leaf held.height m) at now.names
+    → IsGiven seen.names (tree_in form held.leaf held.height m) at now.names
     → now.asks ≡ map.empty
-    → IsSoundMatrix held.leaf held.height m
-    → rows ≡ height m
-    → columns ≡ m.columns
+    → IsSoundIn form held.leaf held.height m
+    → shape ≡ shape_of form m
     → later.leaf ≡ held.leaf
     → later.height ≡ held.height
     → later.order.items ≡ held.order.items ++ at ∷ []
-    → IsAdded held name rows columns at later
-    → IsShown now later (env ++ with_reference at (named_matrix General m name) ∷ [])
-shown_added seen now held later env name rows columns at m is none given idle sound tall wide leaf levels order added =
+    → IsAdded held name shape at later
+    → IsShown now later (env ++ with_reference at (named_matrix form m name) ∷ [])
+shown_added seen now held later env name shape at form m is none given idle sound shaped leaf levels order added =
     let b = held.leaf in
     let h = held.height in
-    let one : Bound = with_reference at (named_matrix General m name) in
+    let one : Bound = with_reference at (named_matrix form m name) in
     let fresh = finds_nothing (found_in held name) (newest (is_bound_as name) env) none (is.names name) in
     record {
       leaf_low = rw leaf is.leaf_low;
@@ -157,31 +151,31 @@ shown_added seen now held later env name rows columns at m is none given idle so
       low = rw levels is.low;
       names = λ other.
           subst₂ Finds (sym (added other)) (sym (newest-push (is_bound_as other) env one))
-          (finds_case (bytes_eq name other) _ one (found_in held other) (newest (is_bound_as other) env) (record { rows = tall; columns = wide; at = refl }) (is.names other));
-      ordered = ordered_added held later name rows columns at is.ordered added order;
+          (finds_case (bytes_eq name other) _ one (found_in held other) (newest (is_bound_as other) env) (record { shape = shaped; at = refl }) (is.names other));
+      ordered = ordered_added held later name shape at is.ordered added order;
       order =
           ap identifiers order ∙ identifiers_append held.order.items (at ∷ []) ∙ ap (λ (ids : List Id). ids ++ identifiers (at ∷ [])) is.order
           ∙ sym (identifiers_append (references env) (at ∷ [])) ∙ ap identifiers (sym (references_append env (one ∷ [])));
       sound = λ other.
           subst₂ (λ l k. IfSome (newest (is_bound_as other) (env ++ one ∷ [])) (IsSoundBound l k)) (sym leaf) (sym levels)
           (subst (λ o. IfSome o (IsSoundBound b h)) (sym (newest-push (is_bound_as other) env one))
-          (sound_case b h (bytes_eq name other) one (newest (is_bound_as other) env) (record { matrix = sound; general = refl }) (is.sound other)));
+          (sound_case b h (bytes_eq name other) one (newest (is_bound_as other) env) sound (is.sound other)));
       kept = subst₂ (λ l k. AreKept l k now.names (env ++ one ∷ [])) (sym leaf) (sym levels) (kept_more b h seen.names now.names env one is.kept given fresh);
       idle = idle;
     }
 
 -- the same where memory ran out before the name was bound
-pub left_added : (seen now : Seen MatChunk MatKind) (held later : Held) (env : List Bound) (name : List ℕ) (at : Ref) (m : Matrix)
+pub left_added : (seen now : Seen MatChunk MatKind) (held later : Held) (env : List Bound) (name : List ℕ) (at : Ref) (form : Form) (m : Matrix)
     → IsShown seen held env
     → found_in held name ≡ None
-    → IsGiven seen.names (tree_of held.leaf held.height m) at now.names
+    → IsGiven seen.names (tree_in form held.leaf held.height m) at now.names
     → now.asks ≡ map.empty
     → later.order.items ≡ held.order.items ++ at ∷ []
     → IsLeft now later
-left_added seen now held later env name at m is none given idle order =
+left_added seen now held later env name at form m is none given idle order =
     let b = held.leaf in
     let h = held.height in
-    let one : Bound = with_reference at (named_matrix General m name) in
+    let one : Bound = with_reference at (named_matrix form m name) in
     let fresh = finds_nothing (found_in held name) (newest (is_bound_as name) env) none (is.names name) in
     let ids = ap identifiers order ∙ identifiers_append held.order.items (at ∷ []) ∙ ap (λ (ids : List Id). ids ++ identifiers (at ∷ [])) is.order
     ∙ sym (identifiers_append (references env) (at ∷ [])) ∙ ap identifiers (sym (references_append env (one ∷ []))) in

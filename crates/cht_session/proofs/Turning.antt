@@ -1,5 +1,5 @@
 -- What one statement did, and the deletes at the end of a run.
-use Rattle.std.proofs.Common.{◌≡◌, ℕ, List, [], ◌∷◌, ◌++◌, Option, refl, sym, ap, ◌∙◌, subst, append_assoc, append-nil}
+use Rattle.std.proofs.Common.{◌≡◌, ℕ, List, [], ◌∷◌, ◌++◌, Option, refl, sym, ap, ◌∙◌, subst, append_assoc, append-nil, inl}
 use Rattle.std.specs.Prelude.{Result, Ok, Err}
 use Rattle.std.specs.FinMap as map
 use Rattle.std.specs.Ordering.{nat_cmp}
@@ -18,7 +18,7 @@ use Rattle.cht_session.specs.declared.stop.Stop.{Stop}
 use Rattle.cht_session.specs.declared.stop.Stop.TheVariants as stops
 use Rattle.cht_session.specs.declared.held.Held.{Held}
 use Rattle.cht_session.specs.declared.operation.Operation.{Operation}
-use Rattle.cht_session.specs.declared.operation.Operation.TheVariants.{Add, Mul, TMul, MulT}
+use Rattle.cht_session.specs.declared.operation.Operation.TheVariants.{Add, Mul, TMul, MulT, Square, Full}
 use Rattle.cht_session.specs.Operations.{verb_of}
 use Rattle.cht_session.specs.Program.{known_in, identifiers, deletes}
 use Rattle.cht_session.specs.Held.{without, AreAll, IsWell}
@@ -34,13 +34,15 @@ binds_acts deed (Ok done) seen now held later took none is = λ env shown.
 binds_acts deed (Err stops.Refused) seen now held later took none is = λ env shown.
     let act = is env shown in (act.0, act.1, act.2, refl)
 binds_acts deed (Err stops.WriteFault) seen now held later took none is = λ env shown. absurd (is env shown)
-binds_acts deed (Err stops.Memory) seen now held later took none is = λ env shown. refl
+binds_acts deed (Err stops.Memory) seen now held later took none is = λ env shown. inl refl
 
 pub no_text : (operation : Operation) (line : ℕ) (names : List (List ℕ)) (known : List Known) → text_by known (Does line (verb_of operation) names) ≡ []
 no_text Add line names known = refl
 no_text Mul line names known = refl
 no_text TMul line names known = refl
 no_text MulT line names known = refl
+no_text Square line names known = refl
+no_text Full line names known = refl
 
 -- ---- The deletes at the end
 

@@ -1,11 +1,10 @@
 -- The statements of a script, one after another.
-use Rattle.std.proofs.Common.{◌≡◌, ℕ, ◌+◌, ◌<◌, ◌≤◌, Bool, true, false, cond, List, [], ◌∷◌, ◌++◌, length, drop, Option, None, Some, refl, sym, ap, ap₂, ◌∙◌, subst, subst₂, arith, append_assoc, append-nil}
-use Rattle.std.specs.Prelude.{map as each, slice_index_or, Ok, Err, ◌&&◌, ◌==◌, option_map}
+use Rattle.std.proofs.Common.{◌≡◌, ℕ, ◌+◌, ◌<◌, ◌≤◌, true, false, cond, List, [], ◌∷◌, ◌++◌, length, drop, Option, None, Some, refl, sym, ap, ap₂, ◌∙◌, subst, subst₂, arith, append_assoc, append-nil, inl, inr}
+use Rattle.std.specs.Prelude.{map as each, slice_index_or, Ok, Err, option_map}
 use Rattle.std.specs.FinMap as map
 use Rattle.std.proofs.lemmas.List.{drop_more}
 use Rattle.cht_io.specs.Bytes.{Adds, AddsFront}
 use Rattle.cht_io.proofs.Adds.{Adds_nil, Adds_then, AddsFront_then, AddsFront_more, AddsFront_whole}
-use Rattle.dense_def.specs.Matrix.{Matrix, height, zeros}
 use Rattle.cht_ids.specs.declared.refs.Id.{Id}
 use Rattle.cht_ids.specs.declared.refs.Ref.{Ref}
 use Rattle.cht_history.specs.declared.event.Event.{Event}
@@ -14,132 +13,110 @@ use Rattle.cht_engine.specs.Seen.{Seen}
 use Rattle.chunk_codec.specs.Spots.{side_of}
 use Rattle.quad_matrix.specs.declared.chunk.MatChunk.{MatChunk}
 use Rattle.quad_matrix.specs.declared.kind.MatKind.{MatKind}
-use Rattle.cht_script.specs.declared.checked.Shape.{Shape}
 use Rattle.cht_script.specs.declared.checked.Step.{Step}
-use Rattle.cht_script.specs.declared.script.Fault.{Fault}
 use Rattle.cht_script.specs.declared.script.Names.{Names}
 use Rattle.cht_script.specs.declared.script.Statement as statement
 use Rattle.cht_script.specs.declared.script.Statement.TheVariants as statements
 use Rattle.cht_script.specs.declared.script.Verb.{Verb}
 use Rattle.cht_script.specs.declared.script.Verb.TheVariants as verb
 use Rattle.cht_script.specs.Newest.{newest}
-use Rattle.cht_script.specs.Statements.{Act, names_after, general, shapes_fit, forms_fit, is_square}
-use Rattle.cht_script.specs.Verdict.{NamedShape, shape_in}
-use Rattle.cht_script.specs.Meaning.{Known, Deed, Lists, Acts as Does, matrix_found, matrix_named, is_refused, left_by, bound_by, known_by, text_by, Told, after_text, told_by, line_of}
+use Rattle.cht_script.specs.Statements.{Act, names_after, general, shapes_fit, is_square}
+use Rattle.std.specs.List.{list_all, list_any}
+use Rattle.cht_script.specs.Verdict.{NamedShape, is_known, shape_in, is_among}
+use Rattle.cht_script.specs.Meaning.{Known, Deed, Lists, Acts as Does, is_named, matrix_found, form_found, is_refused, left_by, bound_by, known_by, text_by, Told, after_text, told_by, line_of}
 use Rattle.cht_script.specs.Reading.{deed_of, names_of, name_bytes, IsFormed}
 use Rattle.cht_script.specs.Checking.{said_by, known_behind, deleted_behind, IsSound, AreSteps, deed_in}
-use Rattle.cht_script.specs.NotRun.{is_run_verb, is_run, not_run_in}
 use Rattle.cht_session.specs.declared.ended.Ended.{Ended}
 use Rattle.cht_session.specs.declared.ended.Ended.TheVariants as ends
 use Rattle.cht_session.specs.declared.stop.Stop.{Stop}
 use Rattle.cht_session.specs.declared.stop.Stop.TheVariants as stops
 use Rattle.cht_session.specs.declared.held.Binding.{Binding}
 use Rattle.cht_session.specs.declared.held.Held.{Held}
-use Rattle.cht_session.specs.declared.operation.Operation.{Operation}
-use Rattle.cht_session.specs.declared.operation.Operation.TheVariants.{Add, Mul, TMul, MulT}
-use Rattle.cht_session.specs.Operations.{verb_of}
+use Rattle.cht_session.specs.Forms.{shape_of}
 use Rattle.cht_session.specs.Listed.{most_listed}
 use Rattle.cht_session.specs.Bindings.{found_in, shape_found, shape_at}
 use Rattle.cht_session.specs.Program.{Bound, known_in, is_bound_as, references, identifiers, with_reference, left_after, env_after, deletes, AreOfDeed, IsProgram, done_of}
 use Rattle.cht_session.specs.Works.{work_by, works_by}
 use Rattle.cht_session.specs.Held.{side_in, Finds, IsShown, IsWell, IsLeft}
-use Rattle.cht_session.specs.Running.{HasShape, Agree, IsReadyAct, IsReady, ActsOn, too_great, Stops, Ran, IsRunTo, HasRunTo}
+use Rattle.cht_session.specs.Running.{shape_named, Agree, inputs_fit, AreFitting, IsReadyAct, IsReady, ActsOn, too_great, Stops, Ran, IsRunTo, HasRunTo}
 use Rattle.cht_session.proofs.Bindings.{known_newest, known_append, known_left, finds_nothing}
 use Rattle.cht_session.proofs.Shown.{is_found, shown_left}
-use Rattle.cht_session.proofs.Agreeing.{both, agree_next, agree_nothing, one_input, two_inputs, wider_market, general_form}
-use Rattle.cht_session.proofs.Effects.{one_name, three_names}
+use Rattle.cht_session.proofs.Tests.{both}
+use Rattle.cht_session.proofs.Agreeing.{agree_next, agree_nothing, one_input, two_inputs, wider_market}
+use Rattle.cht_session.proofs.Effects.{one_name, two_names, three_names}
 use Rattle.name_states.proofs.Basics.{none_not_some}
 
 -- ---- Shapes
 
--- the shape that is held of a name is that of the matrix that it means
+-- the shape and form that are held of a name are those of the matrix that it means
 pub shape_held : (seen : Seen MatChunk MatKind) (held : Held) (env : List Bound) (name : List ℕ) → IsShown seen held env
-    → shape_at held name ≡ general (height (matrix_named (known_in env) name)) (matrix_named (known_in env) name).columns
+    → shape_at held name ≡ shape_named (known_in env) name
 shape_held seen held env name is = case (found_in held name) refl
   where
-    case : (o : Option Binding) → found_in held name ≡ o → shape_at held name ≡ general (height (matrix_named (known_in env) name)) (matrix_named (known_in env) name).columns
+    case : (o : Option Binding) → found_in held name ≡ o → shape_at held name ≡ shape_named (known_in env) name
     case None at =
         let none = finds_nothing (found_in held name) (newest (is_bound_as name) env) at (is.names name) in
-        let m : zeros 0 0 ≡ matrix_named (known_in env) name = ap matrix_found (sym (known_newest name env ∙ ap (option_map (λ (one : Bound). one.known)) none)) in
-        ap shape_found at ∙ ap (λ (m : Matrix). general (height m) m.columns) m
-    case (Some one) at = (is_found seen held env name one is at).shape
-
-fit_same : (operation : Operation) (s t u v : Shape) → s.rows ≡ u.rows → s.columns ≡ u.columns → t.rows ≡ v.rows → t.columns ≡ v.columns
-    → shapes_fit (verb_of operation) s t ≡ shapes_fit (verb_of operation) u v
-fit_same Add s t u v p q r w = ap₂ (λ a b. a && b) (ap₂ (λ m n. m == n) p r) (ap₂ (λ m n. m == n) q w)
-fit_same Mul s t u v p q r w = ap₂ (λ m n. m == n) q r
-fit_same TMul s t u v p q r w = ap₂ (λ m n. m == n) p r
-fit_same MulT s t u v p q r w = ap₂ (λ m n. m == n) q w
+        let known : newest (is_named name) (known_in env) ≡ None = known_newest name env ∙ ap (option_map (λ (one : Bound). one.known)) none in
+        ap shape_found at ∙ ap (λ o. shape_of (form_found o) (matrix_found o)) (sym known)
+    case (Some one) at = (is_found seen held env name one is at).shape_seen
 
 module _ (seen : Seen MatChunk MatKind) (held : Held) (env : List Bound) (shapes : List NamedShape) (deleted : List (List ℕ)) (shows : IsShown seen held env)
     (agree : Agree (known_in env) shapes deleted) where
   abbrev known : List Known
   known = known_in env
 
-  -- the shapes of two names that are bound
-  pair_ready : (operation : Operation) (a b : List ℕ) → HasShape (matrix_named known a) (shape_in shapes a) × HasShape (matrix_named known b) (shape_in shapes b)
-      → shapes_fit (verb_of operation) (shape_in shapes a) (shape_in shapes b) ≡ true
-      → shapes_fit (verb_of operation) (shape_at held a) (shape_at held b) ≡ true
-  pair_ready operation a b given fits =
-      ap₂ (shapes_fit (verb_of operation)) (shape_held seen held env a shows) (shape_held seen held env b shows)
-      ∙ fit_same operation (general (height (matrix_named known a)) (matrix_named known a).columns) (general (height (matrix_named known b)) (matrix_named known b).columns) (shape_in shapes a) (shape_in shapes b)
-      given.0.rows given.0.columns given.1.rows given.1.columns
-      ∙ fits
+  -- the shapes and forms of two names that are bound
+  pair_ready : (verb : Verb) (a b : List ℕ) → list_all (is_known shapes) (a ∷ b ∷ []) ≡ true → list_any (is_among deleted) (a ∷ b ∷ []) ≡ false
+      → inputs_fit verb (shape_in shapes a) (shape_in shapes b) ≡ true → AreFitting held verb a b
+  pair_ready verb a b bound left fits =
+      let given = two_inputs known shapes deleted a b agree bound left in
+      ap₂ (inputs_fit verb) (shape_held seen held env a shows ∙ given.0) (shape_held seen held env b shows ∙ given.1) ∙ fits
 
-  square_ready : (a : List ℕ) → HasShape (matrix_named known a) (shape_in shapes a) → is_square (shape_in shapes a) ≡ true → is_square (shape_at held a) ≡ true
-  square_ready a given fits = ap is_square (shape_held seen held env a shows) ∙ ap₂ (λ m n. m == n) given.rows given.columns ∙ fits
-
-  add_ready : (c a b : List ℕ) → IsSound shapes deleted (Act verb.Add (c ∷ a ∷ b ∷ [])) → shapes_fit verb.Add (shape_at held a) (shape_at held b) ≡ true
-  add_ready c a b sound =
-      pair_ready Add a b (two_inputs known shapes deleted a b agree sound.bound sound.left)
-      (both (shapes_fit verb.Add (shape_in shapes a) (shape_in shapes b)) (forms_fit verb.Add (shape_in shapes a) (shape_in shapes b)) sound.fit).0
-
-  mul_ready : (c a b : List ℕ) → IsSound shapes deleted (Act verb.Mul (c ∷ a ∷ b ∷ [])) → shapes_fit verb.Mul (shape_at held a) (shape_at held b) ≡ true
-  mul_ready c a b sound =
-      pair_ready Mul a b (two_inputs known shapes deleted a b agree sound.bound sound.left)
-      (both (shapes_fit verb.Mul (shape_in shapes a) (shape_in shapes b)) (forms_fit verb.Mul (shape_in shapes a) (shape_in shapes b)) sound.fit).0
-
-  tmul_ready : (c a b : List ℕ) → IsSound shapes deleted (Act verb.TMul (c ∷ a ∷ b ∷ [])) → shapes_fit verb.TMul (shape_at held a) (shape_at held b) ≡ true
-  tmul_ready c a b sound =
-      pair_ready TMul a b (two_inputs known shapes deleted a b agree sound.bound sound.left)
-      (both (shapes_fit verb.TMul (shape_in shapes a) (shape_in shapes b)) (forms_fit verb.TMul (shape_in shapes a) (shape_in shapes b)) sound.fit).0
-
-  mult_ready : (c a b : List ℕ) → IsSound shapes deleted (Act verb.MulT (c ∷ a ∷ b ∷ [])) → shapes_fit verb.MulT (shape_at held a) (shape_at held b) ≡ true
-  mult_ready c a b sound =
-      pair_ready MulT a b (two_inputs known shapes deleted a b agree sound.bound sound.left)
-      (both (shapes_fit verb.MulT (shape_in shapes a) (shape_in shapes b)) (forms_fit verb.MulT (shape_in shapes a) (shape_in shapes b)) sound.fit).0
+  -- those of one
+  single_ready : (verb : Verb) (a : List ℕ) → list_all (is_known shapes) (a ∷ []) ≡ true → list_any (is_among deleted) (a ∷ []) ≡ false
+      → inputs_fit verb (shape_in shapes a) (shape_in shapes a) ≡ true → AreFitting held verb a a
+  single_ready verb a bound left fits =
+      let given = shape_held seen held env a shows ∙ one_input known shapes deleted a agree bound left in
+      ap₂ (inputs_fit verb) given given ∙ fits
 
   trace_ready : (a : List ℕ) → IsSound shapes deleted (Act verb.Trace (a ∷ [])) → is_square (shape_at held a) ≡ true
   trace_ready a sound =
-      square_ready a (one_input known shapes deleted a agree sound.bound sound.left)
-      (both (shapes_fit verb.Trace (shape_in shapes a) (general 0 0)) true sound.fit).0
+      ap is_square (shape_held seen held env a shows ∙ one_input known shapes deleted a agree sound.bound sound.left)
+      ∙ (both (shapes_fit verb.Trace (shape_in shapes a) (general 0 0)) true sound.fit).0
 
-  act_ready : (verb : Verb) (names : Names) → names.count ≡ names_after verb → is_run_verb verb ≡ true → IsSound shapes deleted (Act verb (names_of names))
-      → IsReadyAct held verb names
-  act_ready verb.Copy names count run sound = tt
-  act_ready verb.Add names count run sound =
-      add_ready (name_bytes names.first) (name_bytes names.second) (name_bytes names.third) (subst (λ ns. IsSound shapes deleted (Act verb.Add ns)) (three_names names count) sound)
-  act_ready verb.Mul names count run sound =
-      mul_ready (name_bytes names.first) (name_bytes names.second) (name_bytes names.third) (subst (λ ns. IsSound shapes deleted (Act verb.Mul ns)) (three_names names count) sound)
-  act_ready verb.TMul names count run sound =
-      tmul_ready (name_bytes names.first) (name_bytes names.second) (name_bytes names.third) (subst (λ ns. IsSound shapes deleted (Act verb.TMul ns)) (three_names names count) sound)
-  act_ready verb.MulT names count run sound =
-      mult_ready (name_bytes names.first) (name_bytes names.second) (name_bytes names.third) (subst (λ ns. IsSound shapes deleted (Act verb.MulT ns)) (three_names names count) sound)
-  act_ready verb.Square names count run sound = absurd cc
-  act_ready verb.Full names count run sound = absurd cc
-  act_ready verb.Trace names count run sound =
+  act_ready : (verb : Verb) (names : Names) → names.count ≡ names_after verb → IsSound shapes deleted (Act verb (names_of names)) → IsReadyAct held verb names
+  act_ready verb.Copy names count sound = tt
+  act_ready verb.Add names count sound =
+      let is = subst (λ ns. IsSound shapes deleted (Act verb.Add ns)) (three_names names count) sound in
+      pair_ready verb.Add (name_bytes names.second) (name_bytes names.third) is.bound is.left is.fit
+  act_ready verb.Mul names count sound =
+      let is = subst (λ ns. IsSound shapes deleted (Act verb.Mul ns)) (three_names names count) sound in
+      pair_ready verb.Mul (name_bytes names.second) (name_bytes names.third) is.bound is.left is.fit
+  act_ready verb.TMul names count sound =
+      let is = subst (λ ns. IsSound shapes deleted (Act verb.TMul ns)) (three_names names count) sound in
+      pair_ready verb.TMul (name_bytes names.second) (name_bytes names.third) is.bound is.left is.fit
+  act_ready verb.MulT names count sound =
+      let is = subst (λ ns. IsSound shapes deleted (Act verb.MulT ns)) (three_names names count) sound in
+      pair_ready verb.MulT (name_bytes names.second) (name_bytes names.third) is.bound is.left is.fit
+  act_ready verb.Square names count sound =
+      let is = subst (λ ns. IsSound shapes deleted (Act verb.Square ns)) (two_names names count) sound in
+      single_ready verb.Square (name_bytes names.second) is.bound is.left is.fit
+  act_ready verb.Full names count sound =
+      let is = subst (λ ns. IsSound shapes deleted (Act verb.Full ns)) (two_names names count) sound in
+      single_ready verb.Full (name_bytes names.second) is.bound is.left is.fit
+  act_ready verb.Trace names count sound =
       trace_ready (name_bytes names.first) (subst (λ ns. IsSound shapes deleted (Act verb.Trace ns)) (one_name names count) sound)
-  act_ready verb.Count names count run sound = tt
-  act_ready verb.Print names count run sound = tt
-  act_ready verb.Delete names count run sound = tt
+  act_ready verb.Count names count sound = tt
+  act_ready verb.Print names count sound = tt
+  act_ready verb.Delete names count sound = tt
 
 statement_ready : (grid : ℕ) (seen : Seen MatChunk MatKind) (held : Held) (env : List Bound) (shapes : List NamedShape) (deleted : List (List ℕ)) (one : statement.Statement)
-    → grid ≤ most_listed (side_in held) → IsFormed grid one → is_run (deed_of one) ≡ true → IsSound shapes deleted (said_by (deed_of one))
+    → grid ≤ most_listed (side_in held) → IsFormed grid one → IsSound shapes deleted (said_by (deed_of one))
     → IsShown seen held env → Agree (known_in env) shapes deleted → IsReady held one
-statement_ready grid seen held env shapes deleted (statements.Market line to market) wide formed run sound shows agree =
-    (wider_market grid (most_listed (side_in held)) wide market formed, general_form market.form run)
-statement_ready grid seen held env shapes deleted (statements.Act line verb names) wide formed run sound shows agree =
-    (formed.0, act_ready seen held env shapes deleted shows agree verb names formed.0 run sound)
+statement_ready grid seen held env shapes deleted (statements.Market line to market) wide formed sound shows agree =
+    wider_market grid (most_listed (side_in held)) wide market formed
+statement_ready grid seen held env shapes deleted (statements.Act line verb names) wide formed sound shows agree =
+    (formed.0, act_ready seen held env shapes deleted shows agree verb names formed.0 sound)
 
 -- ---- Names behind a statement
 
@@ -182,7 +159,6 @@ pub record IsUnderway (grid b h : ℕ) (all rest : List Step) (before now : Seen
   pub height : held.height ≡ h
   pub agree : Agree (known_in env) shapes deleted
   pub steps : AreSteps grid shapes deleted rest
-  pub run : not_run_in (each deed_in rest) ≡ None
   pub caller : now.caller ≡ before.caller
   pub events : List (Event MatKind)
   pub came : now.events ≡ before.events ++ events
@@ -199,8 +175,8 @@ next_step all i one lt is = drop_more all i one lt ∙ ap (λ s. s ∷ drop (i +
 pub underway_begins : (grid b h : ℕ) (all : List Step) (before : Seen MatChunk MatKind) (held : Held) (taken : Option (List ℕ))
     → before.names ≡ map.empty → before.asks ≡ map.empty → ((name : List ℕ) → found_in held name ≡ None) → held.order.items ≡ []
     → held.leaf ≡ b → held.height ≡ h → 1 ≤ b → b ≤ 64 → h ≤ 16
-    → AreSteps grid [] [] all → not_run_in (each deed_in all) ≡ None → IsUnderway grid b h all all before before held taken taken
-underway_begins grid b h all before held taken empty idle none order leaf levels low high few steps run = record {
+    → AreSteps grid [] [] all → IsUnderway grid b h all all before before held taken taken
+underway_begins grid b h all before held taken empty idle none order leaf levels low high few steps = record {
   env = [];
   shapes = [];
   deleted = [];
@@ -225,21 +201,12 @@ underway_begins grid b h all before held taken empty idle none order leaf levels
   height = levels;
   agree = agree_nothing;
   steps = steps;
-  run = run;
   caller = refl;
   events = [];
   came = sym (append-nil before.events);
   program = λ later p. p;
   account = refl;
 }
-
-run_first : (b : Bool) (later : Option Fault) (fault : Fault) → cond b later (Some fault) ≡ None → (b ≡ true) × (later ≡ None)
-run_first true later fault e = (refl, e)
-run_first false later fault e = absurd cc
-
--- the first of the statements that are run is run, and so are those behind it
-runs_first : (deed : Deed) (deeds : List Deed) → not_run_in (deed ∷ deeds) ≡ None → (is_run deed ≡ true) × (not_run_in deeds ≡ None)
-runs_first deed deeds e = run_first (is_run deed) (not_run_in deeds) (record { line = line_of deed; code = 20 }) e
 
 told_more : (text more : List ℕ) (told : Told) → after_text text (after_text more told) ≡ after_text (text ++ more) told
 told_more text more told = ap (λ t. record told { text = t }) (sym (append_assoc text more told.text))
@@ -269,7 +236,7 @@ module _ (grid b h : ℕ) (all : List Step) (before : Seen MatChunk MatKind) (ta
   underway_ready step others now held took wide is =
       statement_ready grid now held is.env is.shapes is.deleted step.statement
       (subst₂ (λ l k. grid ≤ most_listed (side_of l k)) (sym is.leaf) (sym is.height) wide)
-      is.steps.0.formed (runs_first (deed_in step) (each deed_in others) is.run).0 is.steps.0.sound is.shown is.agree
+      is.steps.0.formed is.steps.0.sound is.shown is.agree
 
   pub underway_well : (rest : List Step) (now : Seen MatChunk MatKind) (held : Held) (took : Option (List ℕ)) → IsUnderway grid b h all rest before now held taken took → IsWell now held
   underway_well rest now held took is = (is.env, is.shown)
@@ -285,7 +252,6 @@ module _ (grid b h : ℕ) (all : List Step) (before : Seen MatChunk MatKind) (ta
       let known = known_in is.env in
       let act = acts is.env is.shown in
       let effect = act.1 in
-      let runs = runs_first deed rest is.run in
       let next = env_after is.env deed effect.at in
       let same = known_after is.env deed effect.at in
       let done_is : done_of known (deed ∷ rest) ≡ deed ∷ done_of (known_in next) rest = done_next known deed rest act.0 ∙ ap (λ ks. deed ∷ done_of ks rest) (sym same) in
@@ -303,9 +269,8 @@ module _ (grid b h : ℕ) (all : List Step) (before : Seen MatChunk MatKind) (ta
         height = effect.height ∙ is.height;
         agree =
             subst (λ ks. Agree ks (known_behind is.shapes deed) (deleted_behind is.deleted deed)) (sym same)
-            (agree_next grid known is.shapes is.deleted step.statement is.steps.0.formed runs.0 is.steps.0.sound is.agree);
+            (agree_next grid known is.shapes is.deleted step.statement is.steps.0.formed is.steps.0.sound is.agree);
         steps = is.steps.1;
-        run = runs.1;
         caller = effect.caller ∙ is.caller;
         events = is.events ++ effect.events;
         came = effect.told ∙ ap (λ (es : List (Event MatKind)). es ++ effect.events) is.came ∙ append_assoc before.events is.events effect.events;
@@ -376,13 +341,21 @@ module _ (grid b h : ℕ) (all : List Step) (before : Seen MatChunk MatKind) (ta
       (subst (λ t. Ran ends.WriteFault t taken take) (sym told)
       (AddsFront_then taken took take is.text _ is.wrote (AddsFront_more took take (text_by known deed) _ act.1)))
   underway_ran step others now after held later took take stops.Memory ended is acts stopped =
-      let act = acts is.env is.shown in
+      let deed = deed_in step in
       let known = known_in is.env in
-      let front : AddsFront taken (is.text ++ (told_by known (each deed_in (step ∷ others))).text) took =
-      AddsFront_more taken took is.text _ (AddsFront_whole taken took is.text is.wrote) in
       subst (λ s. Ran s (told_by [] (each deed_in all)) taken take) (sym stopped)
-      (subst (λ t. Ran ends.Memory t taken take) (sym is.told)
-      (subst (λ t. AddsFront taken (is.text ++ (told_by known (each deed_in (step ∷ others))).text) t) (sym act) front))
+      (elim (acts is.env is.shown) [
+        | inl same ↦
+            let front : AddsFront taken (is.text ++ (told_by known (each deed_in (step ∷ others))).text) took =
+            AddsFront_more taken took is.text _ (AddsFront_whole taken took is.text is.wrote) in
+            subst (λ t. Ran ends.Memory t taken take) (sym is.told)
+            (subst (λ t. AddsFront taken (is.text ++ (told_by known (each deed_in (step ∷ others))).text) t) (sym same) front)
+        | inr wrote ↦
+            let told : told_by [] (each deed_in all) ≡ after_text is.text (after_text (text_by known deed) (told_by (known_by known deed) (each deed_in others))) =
+            is.told ∙ ap (after_text is.text) (told_next known deed (each deed_in others) wrote.0) in
+            subst (λ t. Ran ends.Memory t taken take) (sym told)
+            (AddsFront_then taken took take is.text _ is.wrote (AddsFront_more took take (text_by known deed) _ wrote.1))
+      ])
 
   pub underway_stops : (step : Step) (others : List Step) (now after : Seen MatChunk MatKind) (held later : Held) (took take : Option (List ℕ)) (stop : Stop) (ended : Ended)
       → IsUnderway grid b h all (step ∷ others) before now held taken took

@@ -1,5 +1,5 @@
--- What a run holds of the names that are bound: for each its size and its reference, and all references in the order in which they were
--- bound.
+-- What a run holds of the names that are bound: for each its shape, its form and its reference, and all references in the order in which they
+-- were bound.
 use Rattle.std.specs.Prelude.{◌≡◌, ℕ, if◌then◌else◌, List, length, Option, None, Some, slice_get, slice_set}
 use Rattle.std.specs.BTreeMap as tree
 use Rattle.std.specs.Cmp.Lexicographic.{slice_cmp}
@@ -23,12 +23,12 @@ look name named = tree.get_by (λ (key : Bor (List ℕ)). slice_cmp nat_cmp name
 abbrev pub found_in : Held → List ℕ → Option Binding
 found_in held name = look name held.named
 
--- the shape of what was found; one without rows and columns where nothing was
+-- the shape and form of what was found; a general one without rows and columns where nothing was
 abbrev pub shape_found : Option Binding → Shape
 shape_found None = general 0 0
-shape_found (Some one) = general one.rows one.columns
+shape_found (Some one) = one.shape
 
--- the shape of a name
+-- the shape and form of a name
 abbrev pub shape_at : Held → List ℕ → Shape
 shape_at held name = shape_found (found_in held name)
 
@@ -51,9 +51,9 @@ abbrev pub Puts : Held → List ℕ → Option Binding → Held → Type 0
 Puts held name put later = (other : List ℕ) → found_in later other ≡ (if bytes_eq name other then put else found_in held other)
 
 -- a name was bound to a reference, which came behind all others
-abbrev pub IsAdded : Held → List ℕ → ℕ → ℕ → Ref → Held → Type 0
-IsAdded held name rows columns at later =
-    Puts held name (Some (record { rows = rows; columns = columns; at = at; number = length held.order.items })) later
+abbrev pub IsAdded : Held → List ℕ → Shape → Ref → Held → Type 0
+IsAdded held name shape at later =
+    Puts held name (Some (record { shape = shape; at = at; number = length held.order.items })) later
 
 -- a name was ended for which this was found: its reference, if there is one, is no longer in the order
 abbrev pub EndsAs : Option Binding → Held → List ℕ → Ref → Held → Type 0

@@ -2,7 +2,6 @@
 use Rattle.std.specs.Prelude.{◌≡◌, ℕ, ◌≤◌, List, [], ◌∷◌, Option, None, Some, IsSome, IfSome}
 use Rattle.std.specs.Ordering.{nat_cmp}
 use Rattle.std.specs.FinMap as map
-use Rattle.dense_def.specs.Matrix.{Matrix, height, IsMatrix, completed}
 use Rattle.cht_ids.specs.declared.refs.Id.{Id}
 use Rattle.cht_ids.specs.declared.refs.Ref.{Ref}
 use Rattle.cht_ids.specs.declared.refs.Ref.TheVariants.{Null, Id as HeldId}
@@ -12,14 +11,12 @@ use Rattle.name_machine.specs.Parts.{Named}
 use Rattle.cht_engine.specs.Seen.{Seen, of_owner}
 use Rattle.quad_matrix.specs.declared.chunk.MatChunk.{MatChunk}
 use Rattle.quad_matrix.specs.declared.kind.MatKind.{MatKind}
-use Rattle.quad_matrix.specs.Blocks.{block_of, IsCanonical}
-use Rattle.mm_text.specs.declared.market.Form.TheVariants.{General}
 use Rattle.cht_script.specs.Newest.{newest}
 use Rattle.cht_session.specs.declared.held.Binding.{Binding}
 use Rattle.cht_session.specs.declared.held.Held.{Held}
+use Rattle.cht_session.specs.Forms.{tree_in, IsSoundIn, shape_of}
 use Rattle.cht_session.specs.Bindings.{found_in, IsOrdered}
 use Rattle.cht_session.specs.Program.{Bound, is_bound_as, references, identifiers}
-use Rattle.cht_session.specs.Works.{tree_of}
 
 -- ---- Names
 
@@ -27,10 +24,9 @@ use Rattle.cht_session.specs.Works.{tree_of}
 abbrev pub side_in : Held → ℕ
 side_in held = side_of held.leaf held.height
 
--- what is held of a name is its size and its reference
+-- what is held of a name is its shape, its form and its reference
 pub record IsOf (one : Binding) (bound : Bound) : Type 0 where
-  pub rows : one.rows ≡ height bound.known.matrix
-  pub columns : one.columns ≡ bound.known.matrix.columns
+  pub shape : one.shape ≡ shape_of bound.known.form bound.known.matrix
   pub at : one.at ≡ bound.at
 
 -- of a name that is bound, and nothing of any other
@@ -61,7 +57,7 @@ without names (HeldId id) = map.remove names id.number
 abbrev pub AreKept : ℕ → ℕ → Names → List Bound → Type 0
 AreKept b h names [] = names ≡ map.empty
 AreKept b h names (one ∷ env) =
-    IsNameOf names (tree_of b h one.known.matrix) one.at
+    IsNameOf names (tree_in one.known.form b h one.known.matrix) one.at
     × (newest (is_bound_as one.known.name) env ≡ None)
     × AreKept b h (without names one.at) env
 
@@ -72,22 +68,9 @@ AreAll names (id ∷ ids) = IsSome (of_owner id.owner (map.get names id.number))
 
 -- ---- Both together
 
--- the tree is canonical, and its block is this matrix completed by zeros
-pub record IsTreeOf (b h : ℕ) (m : Matrix) (tree : Tree MatChunk) : Type 0 where
-  pub canonical : IsCanonical b h tree
-  pub block : block_of b h tree ≡ completed (side_of b h) m
-
--- a matrix that is no larger than the blocks, and has a tree
-pub record IsSoundMatrix (b h : ℕ) (m : Matrix) : Type 0 where
-  pub whole : IsMatrix m
-  pub rows : height m ≤ side_of b h
-  pub columns : m.columns ≤ side_of b h
-  pub tree : IsTreeOf b h m (tree_of b h m)
-
--- the matrix of a name is so, and in the general form
-pub record IsSoundBound (b h : ℕ) (one : Bound) : Type 0 where
-  pub matrix : IsSoundMatrix b h one.known.matrix
-  pub general : one.known.form ≡ General
+-- the matrix of a name is no larger than the blocks, and has a tree in its form
+abbrev pub IsSoundBound : ℕ → ℕ → Bound → Type 0
+IsSoundBound b h one = IsSoundIn one.known.form b h one.known.matrix
 
 -- what is held, and what the caller sees, is what these names mean and the references that they were given
 pub record IsShown (seen : Seen MatChunk MatKind) (held : Held) (env : List Bound) : Type 0 where

@@ -7,3 +7,4 @@ pub mod Held
 pub mod Given
 pub mod Running
 pub mod Numbers
+pub mod Forms

@@ -8,15 +8,15 @@ use Rattle.cht_ids.specs.declared.refs.Ref.TheVariants.{Null, Id as Held}
 use Rattle.cht_history.specs.declared.event.Event.{Event}
 use Rattle.cht_history.specs.declared.event.Event.TheVariants.{Register, Copy as CopyEvent, Delete as DeleteEvent, Ask, Collect}
 use Rattle.quad_matrix.specs.declared.kind.MatKind.{MatKind}
-use Rattle.quad_matrix.specs.declared.kind.What.TheVariants as what
 use Rattle.quad_matrix.specs.Goals.{kind_of}
 use Rattle.mm_text.specs.declared.market.Form.{Form}
-use Rattle.mm_text.specs.declared.market.Form.TheVariants.{General, Symmetric}
+use Rattle.mm_text.specs.declared.market.Form.TheVariants.{General}
 use Rattle.cht_script.specs.declared.script.Verb.{Verb}
 use Rattle.cht_script.specs.declared.script.Verb.TheVariants.{Copy, Add, Mul, TMul, MulT, Square, Full, Trace, Count, Print, Delete}
 use Rattle.cht_script.specs.Newest.{newest}
 use Rattle.cht_script.specs.Statements.{Act, input_names}
-use Rattle.cht_script.specs.Meaning.{Known, is_named, Deed, Lists, Acts, first_matrix, second_matrix, matrix_given, is_refused, bound_by, known_by}
+use Rattle.cht_script.specs.Meaning.{Known, is_named, Deed, Lists, Acts, first_matrix, second_matrix, first_form, matrix_given, is_refused, bound_by, known_by}
+use Rattle.cht_session.specs.Forms.{what_asked, what_listed}
 
 -- ---- Names with their references
 
@@ -55,6 +55,11 @@ first_reference env (name ∷ names) = reference_named env name
 abbrev pub second_reference : List Bound → List (List ℕ) → Ref
 second_reference env [] = Null
 second_reference env (name ∷ names) = first_reference env names
+
+-- the form of the second of these names; the general one where there is none
+abbrev pub second_form : List Known → List (List ℕ) → Form
+second_form known [] = General
+second_form known (name ∷ names) = first_form known names
 
 -- ---- Names after a statement
 
@@ -122,47 +127,46 @@ abbrev pub AreOfAsk : ℕ → MatKind → List Ref → Bool → Ref → List (Ev
 AreOfAsk caller kind inputs zero r events =
     IsNullIf zero r × (task : ℕ) × (events ≡ Ask caller task kind inputs ∷ Collect caller task r ∷ [])
 
--- A matrix with a number other than 0 was registered as the list of its entries, which has no children, the tree of such a height was asked
--- of that list and collected, and the list's identifier deleted. For a matrix without one there is no event.
-abbrev pub AreOfList : ℕ → ℕ → Bool → Ref → List (Event MatKind) → Type 0
-AreOfList caller height true r events = (r ≡ Null) × (events ≡ [])
-AreOfList caller height false r events =
+-- A matrix with a number other than 0 was registered as the list of its entries, which has no children, a task of a kind was asked on that
+-- list and its output collected, and the list's identifier deleted. For a matrix without one there is no event.
+abbrev pub AreOfList : ℕ → MatKind → Bool → Ref → List (Event MatKind) → Type 0
+AreOfList caller kind true r events = (r ≡ Null) × (events ≡ [])
+AreOfList caller kind false r events =
     IsNullIf false r
     × (list : Id) × (task : ℕ)
     × (events
-    ≡ Register caller list [] ∷ Ask caller task (kind_of what.Assign height) (Held list ∷ []) ∷ Collect caller task r
+    ≡ Register caller list [] ∷ Ask caller task kind (Held list ∷ []) ∷ Collect caller task r
     ∷ DeleteEvent caller list ∷ [])
 
--- by the form in which it is listed; a symmetric one is not run yet
+-- by the form in which it is listed, the tree of such a height
 abbrev pub AreOfMarket : ℕ → ℕ → Form → Matrix → Ref → List (Event MatKind) → Type 0
-AreOfMarket caller height General m r events = AreOfList caller height (is_zero m) r events
-AreOfMarket caller height Symmetric m r events = ⊥
+AreOfMarket caller height form m r events = AreOfList caller (kind_of (what_listed form) height) (is_zero m) r events
 
 -- a reference was copied; null without an event
 abbrev pub AreOfCopy : ℕ → Ref → Ref → List (Event MatKind) → Type 0
 AreOfCopy caller Null r events = (r ≡ Null) × (events ≡ [])
 AreOfCopy caller (Held from) r events = (to : Id) × (r ≡ Held to) × (events ≡ CopyEvent caller from to ∷ [])
 
--- a trace was asked of a reference, collected and deleted
-abbrev pub AreOfTrace : ℕ → ℕ → Ref → Bool → Ref → List (Event MatKind) → Type 0
-AreOfTrace caller height input zero r events =
+-- a task of a kind was asked on a reference, and its output collected and deleted
+abbrev pub AreOfTrace : ℕ → MatKind → Ref → Bool → Ref → List (Event MatKind) → Type 0
+AreOfTrace caller kind input zero r events =
     IsNullIf zero r × (task : ℕ)
-    × (events ≡ (Ask caller task (kind_of what.Trace height) (input ∷ []) ∷ Collect caller task r ∷ []) ++ deletes caller (r ∷ []))
+    × (events ≡ (Ask caller task kind (input ∷ []) ∷ Collect caller task r ∷ []) ++ deletes caller (r ∷ []))
 
--- The events of a verb on inputs with these references and matrices, and the reference that they gave. `square` and `full` want a symmetric
--- matrix, and no script that has one is run yet.
-abbrev pub AreOfVerb : ℕ → ℕ → Verb → Ref → Ref → Matrix → Matrix → Ref → List (Event MatKind) → Type 0
-AreOfVerb caller height Copy p q a b r events = AreOfCopy caller p r events
-AreOfVerb caller height Add p q a b r events = AreOfAsk caller (kind_of what.Add height) (p ∷ q ∷ []) (is_zero (matrix_given Add a b)) r events
-AreOfVerb caller height Mul p q a b r events = AreOfAsk caller (kind_of what.Mul height) (p ∷ q ∷ []) (is_zero (matrix_given Mul a b)) r events
-AreOfVerb caller height TMul p q a b r events = AreOfAsk caller (kind_of what.TMul height) (p ∷ q ∷ []) (is_zero (matrix_given TMul a b)) r events
-AreOfVerb caller height MulT p q a b r events = AreOfAsk caller (kind_of what.MulT height) (p ∷ q ∷ []) (is_zero (matrix_given MulT a b)) r events
-AreOfVerb caller height Square p q a b r events = ⊥
-AreOfVerb caller height Full p q a b r events = ⊥
-AreOfVerb caller height Trace p q a b r events = AreOfTrace caller height p (unsigned_abs (trace_of a) == 0) r events
-AreOfVerb caller height Count p q a b r events = events ≡ []
-AreOfVerb caller height Print p q a b r events = events ≡ []
-AreOfVerb caller height Delete p q a b r events = events ≡ deletes caller (p ∷ [])
+-- The events of a verb on inputs with these references, forms and matrices, and the reference that they gave. The second input is not looked
+-- at where there is one.
+abbrev pub AreOfVerb : ℕ → ℕ → Verb → Ref → Ref → Form → Form → Matrix → Matrix → Ref → List (Event MatKind) → Type 0
+AreOfVerb caller height Copy p q f g a b r events = AreOfCopy caller p r events
+AreOfVerb caller height Add p q f g a b r events = AreOfAsk caller (kind_of (what_asked Add f g) height) (p ∷ q ∷ []) (is_zero (matrix_given Add a b)) r events
+AreOfVerb caller height Mul p q f g a b r events = AreOfAsk caller (kind_of (what_asked Mul f g) height) (p ∷ q ∷ []) (is_zero (matrix_given Mul a b)) r events
+AreOfVerb caller height TMul p q f g a b r events = AreOfAsk caller (kind_of (what_asked TMul f g) height) (p ∷ q ∷ []) (is_zero (matrix_given TMul a b)) r events
+AreOfVerb caller height MulT p q f g a b r events = AreOfAsk caller (kind_of (what_asked MulT f g) height) (p ∷ q ∷ []) (is_zero (matrix_given MulT a b)) r events
+AreOfVerb caller height Square p q f g a b r events = AreOfAsk caller (kind_of (what_asked Square f g) height) (p ∷ []) (is_zero (matrix_given Square a b)) r events
+AreOfVerb caller height Full p q f g a b r events = AreOfAsk caller (kind_of (what_asked Full f g) height) (p ∷ []) (is_zero (matrix_given Full a b)) r events
+AreOfVerb caller height Trace p q f g a b r events = AreOfTrace caller (kind_of (what_asked Trace f g) height) p (unsigned_abs (trace_of a) == 0) r events
+AreOfVerb caller height Count p q f g a b r events = events ≡ []
+AreOfVerb caller height Print p q f g a b r events = events ≡ []
+AreOfVerb caller height Delete p q f g a b r events = events ≡ deletes caller (p ∷ [])
 
 -- the events of a statement where these names are bound, and the reference that they gave
 abbrev pub AreOfDeed : ℕ → ℕ → List Bound → Deed → Ref → List (Event MatKind) → Type 0
@@ -170,6 +174,7 @@ AreOfDeed caller height env (Lists n name form m) r events = AreOfMarket caller 
 AreOfDeed caller height env (Acts n verb names) r events =
     AreOfVerb caller height verb
     (first_reference env (input_names (Act verb names))) (second_reference env (input_names (Act verb names)))
+    (first_form (known_in env) (input_names (Act verb names))) (second_form (known_in env) (input_names (Act verb names)))
     (first_matrix (known_in env) (input_names (Act verb names))) (second_matrix (known_in env) (input_names (Act verb names)))
     r events
 

@@ -1,30 +1,35 @@
 -- What the statements of a script do, one after another, to the sink, to what is held and to what the caller of the engine sees.
-use Rattle.std.specs.Prelude.{◌≡◌, ℕ, ◌+◌, Bool, true, false, List, [], ◌++◌, Option, None, Some, Result, Ok, Err}
+use Rattle.std.specs.Prelude.{◌≡◌, ◌⊎◌, ◌&&◌, ℕ, ◌+◌, Bool, true, false, List, [], ◌++◌, Option, None, Some, Result, Ok, Err}
 use Rattle.std.specs.FinMap as maps
 use Rattle.cht_io.specs.Bytes.{Adds, AddsFront}
-use Rattle.dense_def.specs.Matrix.{Matrix, height}
 use Rattle.cht_ids.specs.declared.refs.Ref.{Ref}
 use Rattle.cht_history.specs.declared.event.Event.{Event}
 use Rattle.cht_engine.specs.Seen.{Seen}
 use Rattle.quad_matrix.specs.declared.chunk.MatChunk.{MatChunk}
 use Rattle.quad_matrix.specs.declared.kind.MatKind.{MatKind}
-use Rattle.mm_text.specs.declared.market.Form.TheVariants.{General}
 use Rattle.cht_script.specs.declared.checked.Shape.{Shape}
 use Rattle.cht_script.specs.declared.script.Fault.{Fault}
+use Rattle.cht_script.specs.declared.script.Name.{Name}
 use Rattle.cht_script.specs.declared.script.Names.{Names}
 use Rattle.cht_script.specs.declared.script.Statement as statement
 use Rattle.cht_script.specs.declared.script.Statement.TheVariants as statements
 use Rattle.cht_script.specs.declared.script.Verb.{Verb}
 use Rattle.cht_script.specs.declared.script.Verb.TheVariants.{Copy, Add, Mul, TMul, MulT, Square, Full, Trace, Count, Print, Delete}
-use Rattle.cht_script.specs.Statements.{names_after, shapes_fit, is_square}
+use Rattle.cht_script.specs.Statements.{names_after, shapes_fit, forms_fit, is_square}
 use Rattle.cht_script.specs.Verdict.{NamedShape, is_known, shape_in, is_among}
-use Rattle.cht_script.specs.Meaning.{Known, matrix_named, Deed, is_refused, text_by, Told}
+use Rattle.cht_script.specs.Meaning.{Known, matrix_named, form_named, Deed, is_refused, text_by, Told}
 use Rattle.cht_script.specs.Reading.{name_bytes, IsGoodMarket}
 use Rattle.cht_session.specs.declared.ended.Ended.{Ended}
 use Rattle.cht_session.specs.declared.ended.Ended.TheVariants.{Done, Refused, WriteFault, Memory}
 use Rattle.cht_session.specs.declared.stop.Stop as stop
 use Rattle.cht_session.specs.declared.stop.Stop.TheVariants as stops
 use Rattle.cht_session.specs.declared.held.Held.{Held}
+use Rattle.cht_session.specs.declared.operation.Operation.{Operation}
+use Rattle.cht_session.specs.declared.operation.Operation.TheVariants as operations
+use Rattle.cht_session.specs.Operations.{verb_of, is_single}
+use Rattle.tree_entries.specs.declared.unprinted.Unprinted.{Unprinted}
+use Rattle.tree_entries.specs.declared.unprinted.Unprinted.TheVariants as unprinted
+use Rattle.cht_session.specs.Forms.{shape_of}
 use Rattle.cht_session.specs.Listed.{most_listed}
 use Rattle.cht_session.specs.Program.{Bound, known_in, env_after, deletes, AreOfDeed, IsProgram, done_of}
 use Rattle.cht_session.specs.Works.{work_by, works_by}
@@ -33,32 +38,47 @@ use Rattle.cht_session.specs.Held.{side_in, IsShown, IsLeft}
 
 -- ---- Shapes
 
--- a matrix has the shape of its name, where that was bound and not deleted
-pub record HasShape (m : Matrix) (shape : Shape) : Type 0 where
-  pub rows : height m ≡ shape.rows
-  pub columns : m.columns ≡ shape.columns
+-- the shape and form of what a name means
+abbrev pub shape_named : List Known → List ℕ → Shape
+shape_named known name = shape_of (form_named known name) (matrix_named known name)
 
--- names that are bound have the shapes that were told of them, where these were not deleted
+-- names that are bound have the shapes and forms that were told of them, where these were not deleted
 abbrev pub Agree : List Known → List NamedShape → List (List ℕ) → Type 0
 Agree known shapes deleted =
     (name : List ℕ) → is_known shapes name ≡ true → is_among deleted name ≡ false
-    → HasShape (matrix_named known name) (shape_in shapes name)
+    → shape_named known name ≡ shape_in shapes name
 
 -- ---- One statement
 
--- whether the shapes of two names fit a verb
-abbrev pub IsPair : Held → Verb → Names → Type 0
-IsPair held verb names = shapes_fit verb (shape_at held (name_bytes names.second)) (shape_at held (name_bytes names.third)) ≡ true
+-- whether the shapes and forms of its inputs fit a verb; the second is not looked at where there is one
+abbrev pub inputs_fit : Verb → Shape → Shape → Bool
+inputs_fit verb a b = shapes_fit verb a b && forms_fit verb a b
+
+-- those of two names fit a verb
+abbrev pub AreFitting : Held → Verb → List ℕ → List ℕ → Type 0
+AreFitting held verb a b = inputs_fit verb (shape_at held a) (shape_at held b) ≡ true
+
+-- the last of the names of a statement that are inputs of an operation, by whether it takes one matrix alone
+abbrev pub last_by : Bool → Names → Name
+last_by true names = names.second
+last_by false names = names.third
+
+abbrev pub last_input : Operation → Names → Name
+last_input operation names = last_by (is_single operation) names
+
+-- the inputs of an operation fit its verb
+abbrev pub IsFitting : Held → Operation → Names → Type 0
+IsFitting held operation names = AreFitting held (verb_of operation) (name_bytes names.second) (name_bytes (last_input operation names))
 
 -- what is known of a statement with a verb that comes next
 abbrev pub IsReadyAct : Held → Verb → Names → Type 0
 IsReadyAct held Copy names = Unit {0}
-IsReadyAct held Add names = IsPair held Add names
-IsReadyAct held Mul names = IsPair held Mul names
-IsReadyAct held TMul names = IsPair held TMul names
-IsReadyAct held MulT names = IsPair held MulT names
-IsReadyAct held Square names = ⊥
-IsReadyAct held Full names = ⊥
+IsReadyAct held Add names = IsFitting held operations.Add names
+IsReadyAct held Mul names = IsFitting held operations.Mul names
+IsReadyAct held TMul names = IsFitting held operations.TMul names
+IsReadyAct held MulT names = IsFitting held operations.MulT names
+IsReadyAct held Square names = IsFitting held operations.Square names
+IsReadyAct held Full names = IsFitting held operations.Full names
 IsReadyAct held Trace names = is_square (shape_at held (name_bytes names.first)) ≡ true
 IsReadyAct held Count names = Unit {0}
 IsReadyAct held Print names = Unit {0}
@@ -66,7 +86,7 @@ IsReadyAct held Delete names = Unit {0}
 
 -- what is known of a statement that comes next
 abbrev pub IsReady : Held → statement.Statement → Type 0
-IsReady held (statements.Market line to market) = IsGoodMarket (most_listed (side_in held)) market × (market.form ≡ General)
+IsReady held (statements.Market line to market) = IsGoodMarket (most_listed (side_in held)) market
 IsReady held (statements.Act line verb names) = (names.count ≡ names_after verb) × IsReadyAct held verb names
 
 -- A statement took effect where these names were bound: its events came, its work is on the account, and what is held shows the names
@@ -82,7 +102,8 @@ pub record IsEffect (env : List Bound) (deed : Deed) (seen : Seen MatChunk MatKi
   pub height : later.height ≡ held.height
   pub shown : IsShown now later (env_after env deed at)
 
--- What one statement did: it took effect, or it was refused and changed nothing, or the run stopped in its text or before it.
+-- What one statement did: it took effect, or it was refused and changed nothing, or the run stopped in its text or before it. A statement of
+-- whose text a front was written was not refused.
 abbrev pub Acts : List Bound → Deed → Result (Unit {0}) stop.Stop → Seen MatChunk MatKind → Held → Seen MatChunk MatKind → Held
     → Option (List ℕ) → Option (List ℕ) → Type 0
 Acts env deed (Ok done) seen held now later before after =
@@ -91,7 +112,8 @@ Acts env deed (Err stops.Refused) seen held now later before after =
     (is_refused (known_in env) deed ≡ true) × (now ≡ seen) × IsShown now later env × (after ≡ before)
 Acts env deed (Err stops.WriteFault) seen held now later before after =
     (is_refused (known_in env) deed ≡ false) × AddsFront before (text_by (known_in env) deed) after
-Acts env deed (Err stops.Memory) seen held now later before after = after ≡ before
+Acts env deed (Err stops.Memory) seen held now later before after =
+    (after ≡ before) ⊎ ((is_refused (known_in env) deed ≡ false) × AddsFront before (text_by (known_in env) deed) after)
 
 -- what a statement did, whichever names are shown before it
 abbrev pub ActsOn : Deed → Result (Unit {0}) stop.Stop → Seen MatChunk MatKind → Held → Seen MatChunk MatKind → Held
@@ -127,7 +149,13 @@ abbrev pub IsWritten : Result (Unit {0}) stop.Stop → Bool → List ℕ → Opt
 IsWritten (Ok done) fits text before after = (fits ≡ true) × Adds before text after
 IsWritten (Err stops.Refused) fits text before after = (fits ≡ false) × (after ≡ before)
 IsWritten (Err stops.WriteFault) fits text before after = (fits ≡ true) × AddsFront before text after
-IsWritten (Err stops.Memory) fits text before after = after ≡ before
+IsWritten (Err stops.Memory) fits text before after = (after ≡ before) ⊎ ((fits ≡ true) × AddsFront before text after)
+
+-- how a statement ends whose text was written to its end or not
+abbrev pub stopped_by : Result (Unit {0}) Unprinted → Result (Unit {0}) stop.Stop
+stopped_by (Ok done) = Ok done
+stopped_by (Err unprinted.WriteFault) = Err stops.WriteFault
+stopped_by (Err unprinted.Memory) = Err stops.Memory
 
 -- a refusal for too great a result, at a line
 abbrev pub too_great : ℕ → Fault

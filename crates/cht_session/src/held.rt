@@ -2,15 +2,15 @@ ghost use Rattle.std.specs.Prelude.{◌≡◌, ◌<◌, ◌++◌, ◌∷◌, [],
 ghost use Rattle.cht_session.specs.Bindings.{found_in, IsSameHeld, IsAdded, IsEnded};
 
 use cht_ids::{Memory, Ref};
+use cht_script::Shape;
 use std::alloc::Global;
 use std::collections::BTreeMap;
 
-/// What is held of a name: how many rows and columns its matrix has, its reference, and the number of that reference in the order of all,
-/// counted from 0.
+/// What is held of a name: the shape and form of its matrix, its reference, and the number of that reference in the order of all, counted
+/// from 0.
 #[derive(Clone, Copy)]
 pub(crate) struct Binding {
-    pub(crate) rows: u32,
-    pub(crate) columns: u32,
+    pub(crate) shape: Shape,
     pub(crate) at: Ref,
     number: usize,
 }
@@ -86,27 +86,16 @@ impl<'a> Held<'a> {
     }
 
     /// Binds a name that is not bound. After `Memory` the reference is in the order, but has no name.
-    pub(crate) fn bind(
-        &mut self,
-        name: &'a [u8],
-        rows: u32,
-        columns: u32,
-        at: Ref,
-    ) -> Result<(), Memory>
+    pub(crate) fn bind(&mut self, name: &'a [u8], shape: Shape, at: Ref) -> Result<(), Memory>
         requires { vec_len self.old.order < vec_capacity self.old.order }
         ensures leaf { self.new.leaf ≡ self.old.leaf }
         ensures height { self.new.height ≡ self.old.height }
         ensures order { self.new.order.items ≡ self.old.order.items ++ at ∷ [] }
-        ensures bound { OnOk result (IsAdded self.old name.now rows columns at self.new) }
+        ensures bound { OnOk result (IsAdded self.old name.now shape at self.new) }
     {
         let number = self.order.len();
         self.order.push_reserved(at);
-        let one = Binding {
-            rows,
-            columns,
-            at,
-            number,
-        };
+        let one = Binding { shape, at, number };
         self.named.insert(name, one)?;
         Ok(())
     }

@@ -6,7 +6,6 @@ ghost use Rattle.cht_script.specs.Statements.{names_after};
 ghost use Rattle.cht_script.specs.Meaning.{told_by, Acts as Does};
 ghost use Rattle.cht_script.specs.Reading.{deed_of, names_of};
 ghost use Rattle.cht_script.specs.Checking.{AreSteps, deed_in};
-ghost use Rattle.cht_script.specs.NotRun.{not_run_in};
 ghost use Rattle.cht_session.specs.Listed.{most_listed};
 ghost use Rattle.cht_session.specs.Program.{identifiers};
 ghost use Rattle.cht_session.specs.Bindings.{found_in};
@@ -38,7 +37,6 @@ pub fn run_script<E: Engine<MatLib>, K: Sink>(
     requires empty { (E.seen engine.old).names ≡ maps.empty }
     requires idle { (E.seen engine.old).asks ≡ maps.empty }
     requires steps { AreSteps checked.now.grid [] [] checked.now.steps }
-    requires run { not_run_in (map deed_in checked.now.steps) ≡ None }
     requires grid { checked.now.grid ≤ most_listed (side_of checked.now.leaf checked.now.height) }
     requires leaf { 1 ≤ checked.now.leaf }
     requires small { checked.now.leaf ≤ 64 }
@@ -72,7 +70,6 @@ fn run_statements<'a, E: Engine<MatLib>, K: Sink>(
     requires same_leaf { held.old.leaf ≡ checked.now.leaf }
     requires same_height { held.old.height ≡ checked.now.height }
     requires steps { AreSteps checked.now.grid [] [] checked.now.steps }
-    requires run { not_run_in (map deed_in checked.now.steps) ≡ None }
     requires grid { checked.now.grid ≤ most_listed (side_of checked.now.leaf checked.now.height) }
     requires leaf { 1 ≤ checked.now.leaf }
     requires small { checked.now.leaf ≤ 64 }
@@ -163,6 +160,8 @@ fn act_on<'a, E: Engine<MatLib>, K: Sink>(
         Verb::Mul => combine(engine, ctx, held, Operation::Mul, names),
         Verb::TMul => combine(engine, ctx, held, Operation::TMul, names),
         Verb::MulT => combine(engine, ctx, held, Operation::MulT, names),
+        Verb::Square => combine(engine, ctx, held, Operation::Square, names),
+        Verb::Full => combine(engine, ctx, held, Operation::Full, names),
         Verb::Trace => write_trace(engine, ctx, held, names, out),
         Verb::Count => write_count(alloc, engine, ctx, held, names, out),
         Verb::Print => print(alloc, engine, ctx, held, names, out),
@@ -170,7 +169,5 @@ fn act_on<'a, E: Engine<MatLib>, K: Sink>(
             delete(engine, ctx, held, names);
             Ok(())
         }
-        // They want a symmetric matrix, and no script that has one is run.
-        Verb::Square | Verb::Full => Ok(()),
     }
 }

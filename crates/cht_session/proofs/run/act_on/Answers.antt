@@ -3,7 +3,7 @@ use Rattle.cht_script.specs.declared.script.Verb.{Verb}
 use Rattle.cht_script.specs.declared.script.Verb.TheVariants.{Copy as copying}
 use Rattle.cht_script.specs.Meaning.{Acts as Does}
 use Rattle.cht_script.specs.Reading.{names_of}
-use Rattle.cht_session.specs.declared.operation.Operation.TheVariants.{Add, Mul, TMul, MulT}
+use Rattle.cht_session.specs.declared.operation.Operation.TheVariants.{Add, Mul, TMul, MulT, Square, Full}
 use Rattle.cht_session.specs.Operations.{verb_of}
 use Rattle.cht_session.specs.Running.{ActsOn}
 use Rattle.cht_session.proofs.Turning.{binds_acts, no_text, no_fault}
@@ -68,3 +68,27 @@ returns-in-MulT-clause-acts g c = λ line.
 pub returns-in-MulT-clause-cause : goal.returns-in-MulT-clause-cause
 returns-in-MulT-clause-cause g c =
     no_fault (Does 0 (verb_of MulT) (names_of c.args.names.now)) c.combine-in-MulT.result (g.E.Engine.seen c.args.engine.now) (g.E.Engine.seen c.combine-in-MulT.new.engine) c.args.held.now c.combine-in-MulT.new.held c.requires.well (c.combine-in-MulT.ensures.acts 0)
+
+pub returns-in-Square-clause-acts : goal.returns-in-Square-clause-acts
+returns-in-Square-clause-acts g c = λ line.
+    let seen = g.E.Engine.seen c.args.engine.now in
+    let now = g.E.Engine.seen c.combine-in-Square.new.engine in
+    let took = g.K.Sink.took c.args.out.now in
+    subst (λ (v : Verb). ActsOn (Does line v (names_of c.args.names.now)) c.combine-in-Square.result seen c.args.held.now now c.combine-in-Square.new.held took took) (sym c.in-Square.is)
+    (binds_acts (Does line (verb_of Square) (names_of c.args.names.now)) c.combine-in-Square.result seen now c.args.held.now c.combine-in-Square.new.held took (no_text Square line (names_of c.args.names.now)) (c.combine-in-Square.ensures.acts line))
+
+pub returns-in-Square-clause-cause : goal.returns-in-Square-clause-cause
+returns-in-Square-clause-cause g c =
+    no_fault (Does 0 (verb_of Square) (names_of c.args.names.now)) c.combine-in-Square.result (g.E.Engine.seen c.args.engine.now) (g.E.Engine.seen c.combine-in-Square.new.engine) c.args.held.now c.combine-in-Square.new.held c.requires.well (c.combine-in-Square.ensures.acts 0)
+
+pub returns-in-Full-clause-acts : goal.returns-in-Full-clause-acts
+returns-in-Full-clause-acts g c = λ line.
+    let seen = g.E.Engine.seen c.args.engine.now in
+    let now = g.E.Engine.seen c.combine-in-Full.new.engine in
+    let took = g.K.Sink.took c.args.out.now in
+    subst (λ (v : Verb). ActsOn (Does line v (names_of c.args.names.now)) c.combine-in-Full.result seen c.args.held.now now c.combine-in-Full.new.held took took) (sym c.in-Full.is)
+    (binds_acts (Does line (verb_of Full) (names_of c.args.names.now)) c.combine-in-Full.result seen now c.args.held.now c.combine-in-Full.new.held took (no_text Full line (names_of c.args.names.now)) (c.combine-in-Full.ensures.acts line))
+
+pub returns-in-Full-clause-cause : goal.returns-in-Full-clause-cause
+returns-in-Full-clause-cause g c =
+    no_fault (Does 0 (verb_of Full) (names_of c.args.names.now)) c.combine-in-Full.result (g.E.Engine.seen c.args.engine.now) (g.E.Engine.seen c.combine-in-Full.new.engine) c.args.held.now c.combine-in-Full.new.held c.requires.well (c.combine-in-Full.ensures.acts 0)

@@ -15,7 +15,7 @@ loop-step-init g c =
       underway =
           subst (λ (steps : List Step). IsUnderway checked.grid checked.leaf checked.height checked.steps steps seen seen c.args.held.now took took) (sym c.as_slice-step-items.ensures)
           (underway_begins checked.grid checked.leaf checked.height checked.steps seen c.args.held.now took c.requires.empty c.requires.idle c.requires.nothing c.requires.order
-          c.requires.same_leaf c.requires.same_height c.requires.leaf c.requires.small c.requires.height c.requires.steps c.requires.run);
+          c.requires.same_leaf c.requires.same_height c.requires.leaf c.requires.small c.requires.height c.requires.steps);
     }
 
 pub act-requires-clause-ready : goal.act-requires-clause-ready

@@ -1,4 +1,5 @@
-use Rattle.std.proofs.Common.{◌≡◌, None, Some, Ok, sym, subst, ap}
+use Rattle.std.proofs.Common.{◌≡◌, ◌∙◌, None, Some, Ok, sym, subst, ap}
+use Rattle.cht_script.specs.Reading.{name_bytes}
 use Rattle.cht_session.specs.Bindings.{found_in, IsAdded}
 use Rattle.cht_session.specs.Given.{Combines, IsReadyPair}
 use Rattle.cht_session.proofs.Asked.{nothing_done}
@@ -28,7 +29,7 @@ combined-requires-clause-defined g c =
     let room = c.make_room.new.self in
     let seen = g.E.Engine.seen c.args.engine.now in
     let p = subst (λ n. found_in room n ≡ Some c.in-Some.a) c.as_bytes-2.ensures (sym c.in-Some.ensures) in
-    let q = subst (λ n. found_in room n ≡ Some c.in-Some-find.b) c.as_bytes-3.ensures (sym c.in-Some-find.ensures) in
+    let q = subst (λ n. found_in room n ≡ Some c.in-Some-find.b) (c.as_bytes-3.ensures ∙ ap name_bytes c.last_input.ensures) (sym c.in-Some-find.ensures) in
     subst (λ h. IsReadyPair seen h c.args.operation c.in-Some.a c.in-Some-find.b) (sym c.height.ensures)
     (combine_ready c.args.operation c.args.names.now seen c.args.held.now room c.in-Some.a c.in-Some-find.b c.make_room.ensures.same c.requires.shapes p q c.requires.well)
 
@@ -44,10 +45,10 @@ returns-in_default-2-clause-acts g c = λ line env shown.
     let a = c.in-Some.a in
     let b = c.in-Some-find.b in
     let p = subst (λ n. found_in room n ≡ Some a) c.as_bytes-2.ensures (sym c.in-Some.ensures) in
-    let q = subst (λ n. found_in room n ≡ Some b) c.as_bytes-3.ensures (sym c.in-Some-find.ensures) in
+    let q = subst (λ n. found_in room n ≡ Some b) (c.as_bytes-3.ensures ∙ ap name_bytes c.last_input.ensures) (sym c.in-Some-find.ensures) in
     let got = subst (λ o. Combines seen now c.height.result c.args.operation a b (Ok o)) c.in_default-2.is c.in_ok-at.ensures in
     let at_height = subst (λ h. Combines seen now h c.args.operation a b (Ok None)) c.height.ensures got in
-    combine_refused c.args.operation c.args.names.now seen now c.args.held.now room a b c.requires.count c.make_room.ensures.same c.requires.shapes p q at_height line env shown
+    combine_refused c.args.operation c.args.names.now seen now c.args.held.now room a b c.requires.count c.make_room.ensures.same p q at_height line env shown
 
 pub returns-in_default-2-clause-going : goal.returns-in_default-2-clause-going
 returns-in_default-2-clause-going g c =
@@ -66,7 +67,7 @@ returns-in_err-bind-clause-going g c =
     let at = c.in-Some-2.at in
     let none = subst (λ n. found_in room n ≡ None) c.as_bytes.ensures c.in_ok-make_room.ensures.fresh in
     let p = subst (λ n. found_in room n ≡ Some a) c.as_bytes-2.ensures (sym c.in-Some.ensures) in
-    let q = subst (λ n. found_in room n ≡ Some b) c.as_bytes-3.ensures (sym c.in-Some-find.ensures) in
+    let q = subst (λ n. found_in room n ≡ Some b) (c.as_bytes-3.ensures ∙ ap name_bytes c.last_input.ensures) (sym c.in-Some-find.ensures) in
     let got = subst (λ o. Combines seen now c.height.result c.args.operation a b (Ok o)) c.in-Some-2.is c.in_ok-at.ensures in
     let at_height = subst (λ h. Combines seen now h c.args.operation a b (Ok (Some at))) c.height.ensures got in
     combine_left c.args.operation c.args.names.now seen now c.args.held.now room c.bind.new.self a b c.make_room.ensures.same c.requires.shapes p q at none at_height
@@ -82,12 +83,12 @@ returns-clause-acts g c = λ line env shown.
     let at = c.in-Some-2.at in
     let none = subst (λ n. found_in room n ≡ None) c.as_bytes.ensures c.in_ok-make_room.ensures.fresh in
     let p = subst (λ n. found_in room n ≡ Some a) c.as_bytes-2.ensures (sym c.in-Some.ensures) in
-    let q = subst (λ n. found_in room n ≡ Some b) c.as_bytes-3.ensures (sym c.in-Some-find.ensures) in
+    let q = subst (λ n. found_in room n ≡ Some b) (c.as_bytes-3.ensures ∙ ap name_bytes c.last_input.ensures) (sym c.in-Some-find.ensures) in
     let got = subst (λ o. Combines seen now c.height.result c.args.operation a b (Ok o)) c.in-Some-2.is c.in_ok-at.ensures in
     let at_height = subst (λ h. Combines seen now h c.args.operation a b (Ok (Some at))) c.height.ensures got in
-    let added = subst (λ n. IsAdded room n c.sizes-rows.result.0 c.sizes-rows.result.1 at c.bind.new.self) c.as_bytes-4.ensures c.in_ok-bind.ensures.bound in
+    let added = subst (λ n. IsAdded room n c.shape.result at c.bind.new.self) c.as_bytes-4.ensures c.in_ok-bind.ensures.bound in
     combine_done c.args.operation c.args.names.now seen now c.args.held.now room c.bind.new.self a b c.requires.count c.make_room.ensures.same c.requires.shapes p q at none at_height
-    c.sizes-rows.result.0 c.sizes-rows.result.1 (ap (λ p. p.0) c.sizes-rows.ensures) (ap (λ p. p.1) c.sizes-rows.ensures)
+    c.shape.result c.shape.ensures
     (record { leaf = c.bind.ensures.leaf; height = c.bind.ensures.height; order = c.bind.ensures.order; added = added }) line env shown
 
 pub returns-clause-going : goal.returns-clause-going

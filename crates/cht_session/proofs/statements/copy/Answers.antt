@@ -35,7 +35,7 @@ returns-clause-acts g c = λ line env shown.
     let from = c.in-Some.from in
     let none = subst (λ n. found_in room n ≡ None) c.as_bytes.ensures c.in_ok-make_room.ensures.fresh in
     let found = subst (λ n. found_in room n ≡ Some from) c.as_bytes-2.ensures (sym c.in-Some.ensures) in
-    let added = subst (λ n. IsAdded room n from.rows from.columns c.in_ok-at.at c.bind.new.self) c.as_bytes-3.ensures c.in_ok-bind.ensures.bound in (
+    let added = subst (λ n. IsAdded room n from.shape c.in_ok-at.at c.bind.new.self) c.as_bytes-3.ensures c.in_ok-bind.ensures.bound in (
       refl,
       copy_done c.args.names.now (g.E.Engine.seen c.args.engine.now) (g.E.Engine.seen c.copy.new.self) c.args.held.now room c.bind.new.self from c.in_ok-at.at
           c.requires.count c.make_room.ensures.same none found c.in_ok-at.ensures

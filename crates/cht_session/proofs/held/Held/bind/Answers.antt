@@ -9,4 +9,4 @@ returns-clause-bound c =
     let last : c.len-number.result ≡ length c.args.self.now.order.items = search rules in
     λ other.
     btree_map_updates_str c.args.name.now c.args.self.now.named c.insert.new.self (Some _) c.in_ok-insert.ensures.updates other
-    ∙ ap (λ n. cond (bytes_eq c.args.name.now other) (Some (record { rows = c.args.rows; columns = c.args.columns; at = c.args.at; number = n })) (found_in c.args.self.now other)) last
+    ∙ ap (λ n. cond (bytes_eq c.args.name.now other) (Some (record { shape = c.args.shape; at = c.args.at; number = n })) (found_in c.args.self.now other)) last
