@@ -26,8 +26,7 @@ use Rattle.quad_matrix.specs.Blocks.{alone}
 use Rattle.quad_matrix.specs.Goals.{goal_of, FitsAt, IsDefined}
 use Rattle.quad_matrix.specs.Matrices.{matrices}
 use Rattle.quad_matrix.specs.Works.{work_of}
-use Rattle.quad_matrix.proofs.Lists.{sound_some}
-use Rattle.quad_matrix.proofs.ForOthers.{is_there_some, is_there_symmetric_some, goal_any}
+use Rattle.quad_matrix.proofs.ForOthers.{sound_some, is_there_some, is_there_symmetric_some, goal_any}
 use Rattle.cht_session.specs.Forms.{what_listed}
 use Rattle.cht_session.specs.Program.{IsNullIf}
 use Rattle.cht_session.specs.Held.{Names, IsNameOf}

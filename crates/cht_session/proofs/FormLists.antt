@@ -11,8 +11,7 @@ use Rattle.quad_matrix.specs.Spots.{block_of_spots, block_listed}
 use Rattle.quad_matrix.specs.Blocks.{block_of, canonical, alone}
 use Rattle.quad_matrix.specs.Goals.{kind_of, goal_at, goal_of, FitsAt}
 use Rattle.quad_matrix.specs.Works.{work_of}
-use Rattle.quad_matrix.proofs.Lists.{sound_some, block_of_list, list_symmetric}
-use Rattle.quad_matrix.proofs.ForOthers.{block_of_canonical, block_of_symmetric, spots_whole, spots_tall, goal_is_canonical, goal_any}
+use Rattle.quad_matrix.proofs.ForOthers.{sound_some, block_of_list, list_symmetric, block_of_canonical, block_of_symmetric, spots_whole, spots_tall, goal_is_canonical, goal_any}
 use Rattle.mm_text.specs.declared.market.Form.{Form}
 use Rattle.mm_text.specs.declared.market.Form.TheVariants.{General, Symmetric}
 use Rattle.cht_script.specs.Statements.{is_symmetric}

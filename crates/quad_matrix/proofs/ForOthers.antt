@@ -13,7 +13,7 @@ pub use Rattle.quad_matrix.proofs.Symmetric.{symmetric_by_entries, zeros_symmetr
 pub use Rattle.quad_matrix.proofs.SymmetricJoins.{symmetric_join_of, symmetric_join_peak, symmetric_join_nothing, peak_of_symmetric_join, symmetric_join_canonical, symmetric_join_some, symmetric_join_there, symmetric_join_goal, symmetric_join_fits, fits_symmetric_join, symmetric_join_goal_nothing}
 pub use Rattle.quad_matrix.proofs.SymmetricSums.{symmetric_add_canonical, block_of_symmetric_add, symmetric_add_with_nothing, symmetric_add_nothing_with, symmetric_add_nothing, full_canonical, full_of_nothing}
 -- goals: canonical, the same at each side of the leaves, and by children
-pub use Rattle.quad_matrix.proofs.Lists.{spots_whole, spots_tall, sound_some, assign_canonical, goal_is_canonical}
+pub use Rattle.quad_matrix.proofs.Lists.{spots_whole, spots_tall, sound_some, block_of_list, list_symmetric, assign_canonical, goal_is_canonical}
 pub use Rattle.quad_matrix.proofs.AnySide.{goal_any, assign_nothing, symmetric_assign_nothing, join_goal_nothing}
 pub use Rattle.quad_matrix.proofs.Sums.{IsBlock-plus, add_canonical, fits_join, join_goal, join_fits, child_sum, add_on_children, add_is_join, add_with_nothing, add_nothing_with, add_nothing}
 pub use Rattle.quad_matrix.proofs.Numbers.{trace_first, trace_last, trace_fits, trace_on_children, trace_of_nothing, addnum_with_nothing, addnum_nothing_with, addnum_is_number}
