@@ -199,10 +199,40 @@ pub fn peak_of(numbers: &[i128]) -> u128
     ensures least { (bound : ℕ) → All (λ z. unsigned_abs z ≤ bound) numbers.now → result ≤ bound }
 {
     let mut peak = 0;
+    let mut rest = numbers;
+    while rest.len() >= PASSED {
+        let (some, others) = rest.split_at(PASSED);
+        peak = peak_unless_zero(some, peak);
+        rest = others;
+    }
+    peak_with(rest, peak)
+}
+
+// How many numbers are passed over at once where all of them are 0.
+const PASSED: usize = 8;
+
+// The greatest of a number and the absolute values of some others, which are looked at once more where one of them is not 0.
+fn peak_unless_zero(numbers: &[i128], least: u128) -> u128
+    ensures above { All (λ z. unsigned_abs z ≤ result) numbers.now }
+    ensures more { least ≤ result }
+    ensures least { (bound : ℕ) → least ≤ bound → All (λ z. unsigned_abs z ≤ bound) numbers.now → result ≤ bound }
+{
+    if are_zero(numbers) {
+        least
+    } else {
+        peak_with(numbers, least)
+    }
+}
+
+// The greatest of a number and the absolute values of some others.
+fn peak_with(numbers: &[i128], least: u128) -> u128
+    ensures above { All (λ z. unsigned_abs z ≤ result) numbers.now }
+    ensures more { least ≤ result }
+    ensures least { (bound : ℕ) → least ≤ bound → All (λ z. unsigned_abs z ≤ bound) numbers.now → result ≤ bound }
+{
+    let mut peak = least;
     for x in numbers {
-        if *x != 0 {
-            peak = x.unsigned_abs().max(peak);
-        }
+        peak = x.unsigned_abs().max(peak);
     }
     peak
 }

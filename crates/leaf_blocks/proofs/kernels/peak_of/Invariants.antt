@@ -1,9 +1,11 @@
-use Rattle.std.proofs.Common.{ℕ, ◌<◌, ◌≤◌, unsigned_abs}
+use Rattle.std.proofs.Common.{◌≡◌, ℕ, ◌≤◌, ◌++◌, List, length, ℤ, unsigned_abs}
 use Rattle.std.specs.Prelude.{All}
-use Rattle.leaf_blocks.specs.Block.{number_at}
 use Rattle.leaf_blocks.proofs.kernels.peak_of.Given as goal
 
-abbrev pub invariant-loop-x : goal.invariant-loop-x
-invariant-loop-x l =
-    ((k : ℕ) → k < l.x-index → unsigned_abs (number_at l.numbers k) ≤ l.peak)
+abbrev pub invariant-loop-rest : goal.invariant-loop-rest
+invariant-loop-rest l =
+    ((front : List ℤ) × (l.numbers ≡ front ++ l.rest) × All (λ z. unsigned_abs z ≤ l.peak) front)
     × ((bound : ℕ) → All (λ z. unsigned_abs z ≤ bound) l.numbers → l.peak ≤ bound)
+
+abbrev pub decreases-loop-rest : goal.decreases-loop-rest
+decreases-loop-rest l = length l.rest
