@@ -7,8 +7,16 @@ use Rattle.dense_def.proofs.Entries.{length-tabulate, tabulate_ext, entry_made}
 use Rattle.dense_def.proofs.RowByRow.{tabulate_more}
 use Rattle.mm_text.specs.declared.market.Cell.{Cell}
 use Rattle.mm_text.specs.Cells.{is_zero, cells_of_row}
-use Rattle.tree_entries.specs.SquareCells.{row_cells}
-use Rattle.tree_entries.proofs.BesideRows.{InRow}
+
+-- ---- A row of a block
+
+-- row r of a block of that side, counted from 0
+abbrev pub row_of : ℕ → Matrix → ℕ → List ℤ
+row_of side m r = tabulate side (λ j. entry m r j)
+
+-- its numbers other than 0 as cells of row `number` of a matrix in which so many columns stand to the left of the block
+abbrev pub row_cells : ℕ → Matrix → ℕ → ℕ → ℕ → List Cell
+row_cells side m r number left = cells_of_row number (left + 1) (row_of side m r)
 
 -- ---- Lists of values
 
@@ -71,16 +79,17 @@ pub row_of_zeros : (side r number left : ℕ) → r < side → row_cells side (z
 row_of_zeros side r number left lt =
     cells_zero number (left + 1) side (entry (zeros side side) r) (λ k in_row. entry_made side side (λ _ _. pos 0) r k lt in_row)
 
-two_parts : (side : ℕ) (number left : ℕ) (f g h : ℕ → ℤ) → ((j : ℕ) → j < side → f j ≡ g j) → ((j : ℕ) → j < side → f (side + j) ≡ h j)
-    → cells_of_row number (left + 1) (tabulate (side + side) f)
-    ≡ cells_of_row number (left + 1) (tabulate side g) ++ cells_of_row number (left + side + 1) (tabulate side h)
-two_parts side number left f g h first second =
+-- a row in two parts
+pub two_parts : (side n : ℕ) (number left : ℕ) (f g h : ℕ → ℤ) → ((j : ℕ) → j < side → f j ≡ g j) → ((j : ℕ) → j < n → f (side + j) ≡ h j)
+    → cells_of_row number (left + 1) (tabulate (side + n) f)
+    ≡ cells_of_row number (left + 1) (tabulate side g) ++ cells_of_row number (left + side + 1) (tabulate n h)
+two_parts side n number left f g h first second =
     let e : left + 1 + length (tabulate side g) ≡ left + side + 1 = omega (arith, length-tabulate side g) in
-    ap (cells_of_row number (left + 1)) (tabulate_add side side f)
-    ∙ ap (λ xs. cells_of_row number (left + 1) (xs ++ tabulate side (λ i. f (side + i)))) (tabulate_ext side f g first)
-    ∙ ap (λ xs. cells_of_row number (left + 1) (tabulate side g ++ xs)) (tabulate_ext side (λ i. f (side + i)) h second)
-    ∙ cells_append number (left + 1) (tabulate side g) (tabulate side h)
-    ∙ ap (λ k. cells_of_row number (left + 1) (tabulate side g) ++ cells_of_row number k (tabulate side h)) e
+    ap (cells_of_row number (left + 1)) (tabulate_add side n f)
+    ∙ ap (λ xs. cells_of_row number (left + 1) (xs ++ tabulate n (λ i. f (side + i)))) (tabulate_ext side f g first)
+    ∙ ap (λ xs. cells_of_row number (left + 1) (tabulate side g ++ xs)) (tabulate_ext n (λ i. f (side + i)) h second)
+    ∙ cells_append number (left + 1) (tabulate side g) (tabulate n h)
+    ∙ ap (λ k. cells_of_row number (left + 1) (tabulate side g) ++ cells_of_row number k (tabulate n h)) e
 
 -- four squares of one side
 pub record AreSquares (side : ℕ) (a b c d : Matrix) : Type 0 where
@@ -101,7 +110,7 @@ join_entry side a b c d squares i j lt in_row =
     entry_made (height a + height c) (a.columns + b.columns) (at_join a b c d) i j
     (omega (arith, squares.a_tall, squares.c_tall)) (omega (arith, squares.a_wide, squares.b_wide))
 
-upper_left_entry : (side : ℕ) (a b c d : Matrix) → AreSquares side a b c d → (i j : ℕ) → i < side → j < side → entry (joined a b c d) i j ≡ entry a i j
+pub upper_left_entry : (side : ℕ) (a b c d : Matrix) → AreSquares side a b c d → (i j : ℕ) → i < side → j < side → entry (joined a b c d) i j ≡ entry a i j
 upper_left_entry side a b c d s i j lt in_row =
     join_entry side a b c d s i j (omega arith) (omega arith)
     ∙ ap (λ t. cond t (cond (nat_lt j a.columns) (entry a i j) (entry b i (j - a.columns))) (cond (nat_lt j a.columns) (entry c (i - height a) j) (entry d (i - height a) (j - a.columns)))) (lt-ltb i (height a) (omega (arith, s.a_tall)))
@@ -116,7 +125,7 @@ upper_right_entry side a b c d s i j lt in_row =
     ∙ ap (λ t. cond t (entry a i k) (entry b i (k - a.columns))) (le-ltb k a.columns (omega (arith, s.a_wide)))
     ∙ ap (entry b i) e
 
-lower_left_entry : (side : ℕ) (a b c d : Matrix) → AreSquares side a b c d → (i j : ℕ) → side ≤ i → i < side + side → j < side → entry (joined a b c d) i j ≡ entry c (i - side) j
+pub lower_left_entry : (side : ℕ) (a b c d : Matrix) → AreSquares side a b c d → (i j : ℕ) → side ≤ i → i < side + side → j < side → entry (joined a b c d) i j ≡ entry c (i - side) j
 lower_left_entry side a b c d s i j le lt in_row =
     let e : i - height a ≡ i - side = omega (arith, s.a_tall) in
     join_entry side a b c d s i j lt (omega arith)
@@ -124,7 +133,7 @@ lower_left_entry side a b c d s i j le lt in_row =
     ∙ ap (λ t. cond t (entry c (i - height a) j) (entry d (i - height a) (j - a.columns))) (lt-ltb j a.columns (omega (arith, s.a_wide)))
     ∙ ap (λ r. entry c r j) e
 
-lower_right_entry : (side : ℕ) (a b c d : Matrix) → AreSquares side a b c d → (i j : ℕ) → side ≤ i → i < side + side → j < side → entry (joined a b c d) i (side + j) ≡ entry d (i - side) j
+pub lower_right_entry : (side : ℕ) (a b c d : Matrix) → AreSquares side a b c d → (i j : ℕ) → side ≤ i → i < side + side → j < side → entry (joined a b c d) i (side + j) ≡ entry d (i - side) j
 lower_right_entry side a b c d s i j le lt in_row =
     let k = side + j in
     let e : i - height a ≡ i - side = omega (arith, s.a_tall) in
@@ -138,24 +147,14 @@ lower_right_entry side a b c d s i j le lt in_row =
 pub upper_row : (side : ℕ) (a b c d : Matrix) → AreSquares side a b c d → (r number left : ℕ) → r < side
     → row_cells (side + side) (joined a b c d) r number left ≡ row_cells side a r number left ++ row_cells side b r number (left + side)
 upper_row side a b c d s r number left lt =
-    two_parts side number left (entry (joined a b c d) r) (entry a r) (entry b r)
+    two_parts side side number left (entry (joined a b c d) r) (entry a r) (entry b r)
     (λ j in_row. upper_left_entry side a b c d s r j lt in_row) (λ j in_row. upper_right_entry side a b c d s r j lt in_row)
 
 -- a row of the lower half
-pub lower_row : (side : ℕ) (a b c d : Matrix) → AreSquares side a b c d → (r number left : ℕ) → side ≤ r → r < side + side
-    → row_cells (side + side) (joined a b c d) r number left
-    ≡ row_cells side c (r - side) number left ++ row_cells side d (r - side) number (left + side)
-lower_row side a b c d s r number left le lt =
-    two_parts side number left (entry (joined a b c d) r) (entry c (r - side)) (entry d (r - side))
-    (λ j in_row. lower_left_entry side a b c d s r j le lt in_row) (λ j in_row. lower_right_entry side a b c d s r j le lt in_row)
-
--- ---- The row of a cell
-
-in_row_case : (i : ℕ) (b : Bool) (c : Cell) (cells : List Cell) → c.row ≡ i → InRow i cells → InRow i (cond b cells (c ∷ cells))
-in_row_case i true c cells e rest = rest
-in_row_case i false c cells e rest = (e, rest)
-
--- the cells of a row stand in it
-pub cells_in_row : (i j : ℕ) (xs : List ℤ) → InRow i (cells_of_row i j xs)
-cells_in_row i j [] = tt
-cells_in_row i j (x ∷ xs) = in_row_case i (is_zero x) (record { row = i; column = j; value = x }) (cells_of_row i (j + 1) xs) refl (cells_in_row i (j + 1) xs)
+pub lower_row : (side : ℕ) (a b c d : Matrix) → AreSquares side a b c d → (i number left : ℕ) → i < side
+    → row_cells (side + side) (joined a b c d) (side + i) number left ≡ row_cells side c i number left ++ row_cells side d i number (left + side)
+lower_row side a b c d s i number left lt =
+    let e : side + i - side ≡ i = omega arith in
+    two_parts side side number left (entry (joined a b c d) (side + i)) (entry c i) (entry d i)
+    (λ j in_row. lower_left_entry side a b c d s (side + i) j (omega arith) (omega arith) in_row ∙ ap (λ r. entry c r j) e)
+    (λ j in_row. lower_right_entry side a b c d s (side + i) j (omega arith) (omega arith) in_row ∙ ap (λ r. entry d r j) e)

@@ -1,4 +1,10 @@
-pub mod BesideRows
+pub mod CellLists
 pub mod CellRows
-pub mod SquareJoins
-pub mod TreePieces
+pub mod Gathered
+pub mod Levels
+pub mod Parts
+pub mod LowParts
+pub mod WholeCells
+pub mod Listed
+pub mod Walking
+pub mod Printing

@@ -1,2 +1,2 @@
-pub mod SquareCells
 pub mod BlockTrees
+pub mod Strips

@@ -1,8 +1,10 @@
-ghost use Rattle.std.specs.Prelude.{◌≡◌, IfOk};
+ghost use Rattle.std.specs.Prelude.{◌≡◌, ◌<◌, ◌^◌, length, IfOk};
 ghost use Rattle.cht_engine.specs.Seen.{MayMention, tree_named};
 ghost use Rattle.tree_entries.specs.BlockTrees.{IsBlockTree, IsCountOf};
+ghost use Rattle.tree_entries.specs.Strips.{IsReadable, all_listed};
 
-use crate::entries::entries_of;
+use crate::strips::{Strips, push_row};
+use crate::walk::strips_of;
 use cht_engine::Engine;
 use cht_ids::{Memory, Ref};
 use matrix_library::MatLib;
@@ -10,7 +12,7 @@ use mm_text::Form;
 use std::alloc::Global;
 
 /// How many numbers `entries_of` lists of the block that a reference names. The reference is null, or names the canonical tree of a block
-/// in that form. After `Memory` the engine is as before.
+/// in that form. Beside the list of the leaf blocks there is memory for the numbers of one row. After `Memory` the engine is as before.
 pub fn count_entries<E: Engine<MatLib>>(
     alloc: Global,
     engine: &mut E,
@@ -23,6 +25,22 @@ pub fn count_entries<E: Engine<MatLib>>(
     ensures counted { IfOk result (IsCountOf form (tree_named (E.seen engine.old) r)) }
     ensures unchanged { E.seen engine.new ≡ E.seen engine.old }
 {
-    let cells = entries_of(alloc, engine, ctx, r, form)?;
-    Ok(cells.len() as u64)
+    let strips = strips_of(alloc, engine, ctx, r)?;
+    count_all(alloc, &strips)
+}
+
+/// How many cells the rows have together.
+pub(crate) fn count_all(alloc: Global, strips: &Strips) -> Result<u64, Memory>
+    requires readable { IsReadable strips.now }
+    requires few { length (all_listed strips.now) < 2 ^ 64 }
+    ensures { IfOk result (λ count. count ≡ length (all_listed strips.now)) }
+{
+    let mut cells = Vec::new(alloc);
+    let mut count: u64 = 0;
+    for row in 0..strips.rows() {
+        cells.clear();
+        push_row(strips, row, &mut cells)?;
+        count += cells.as_slice().len() as u64;
+    }
+    Ok(count)
 }

@@ -1,13 +1,14 @@
 //! The numbers other than 0 of a matrix whose tree the caller of an engine holds: as a list, how many they are, and their text.
 #![tactic(auto)]
 
-mod beside;
-mod corner;
 mod count;
 mod entries;
-mod leaf_cells;
+mod piece;
+mod place;
 mod print;
+mod strips;
 mod unprinted;
+mod walk;
 
 pub use count::count_entries;
 pub use entries::entries_of;
