@@ -4,15 +4,13 @@ use Rattle.std.specs.Prelude.{◌⊎◌, option_map, map, Err}
 use Rattle.std.proofs.lemmas.Bool.{cases_lt, lt-leb}
 use Rattle.std.proofs.lemmas.List.{take_all, length-take, length-drop, nil_from_length}
 use Rattle.cht_io.specs.Bytes.{Adds, AddsFront}
-use Rattle.mm_text.specs.Faults.{or_else}
 use Rattle.cht_script.specs.declared.checked.Checked.{Checked}
 use Rattle.cht_script.specs.declared.script.Fault.{Fault}
 use Rattle.cht_script.specs.Items.{fault_at, heading_of}
 use Rattle.cht_script.specs.Verdict.{most_bytes, fault_with, verdict}
-use Rattle.cht_script.specs.Meaning.{told_by, told_of, deeds_of}
+use Rattle.cht_script.specs.Meaning.{told_by, told_of}
 use Rattle.cht_script.specs.Reading.{IsLeastHeight}
 use Rattle.cht_script.specs.Checking.{IsChecked, deed_in}
-use Rattle.cht_script.specs.NotRun.{not_run_in, refused_text}
 use Rattle.cht_session.specs.declared.ended.Ended.{Ended}
 use Rattle.cht_session.specs.declared.ended.Ended.TheVariants as ended
 use Rattle.cht_session.specs.Running.{Ran}
@@ -29,22 +27,22 @@ use Rattle.cht_run.specs.Reading.{Stopped}
 -- ---- The text that was read, and the whole input
 
 -- a text that is too long
-long_verdict : (text : List ℕ) → 2 ^ 26 < length text → refused_text text ≡ Some (record { line = 0; code = 1 })
+long_verdict : (text : List ℕ) → 2 ^ 26 < length text → verdict text ≡ Some (record { line = 0; code = 1 })
 long_verdict text long =
-    ap (λ (b : Bool). or_else (cond b (fault_with (heading_of text)) (Some (fault_at 0 1))) (not_run_in (deeds_of text))) (lt-leb (length text) (2 ^ 26) long)
+    ap (λ (b : Bool). cond b (fault_with (heading_of text)) (Some (fault_at 0 1))) (lt-leb (length text) (2 ^ 26) long)
 
 short_input : (input : List ℕ) → length input ≤ 2 ^ 26 → take (2 ^ 26 + 1) input ≡ input
 short_input input short = take_all (2 ^ 26 + 1) input (omega arith)
 
-pub verdict_read : (input : List ℕ) → refused_text (take (2 ^ 26 + 1) input) ≡ refused_text input
+pub verdict_read : (input : List ℕ) → verdict (take (2 ^ 26 + 1) input) ≡ verdict input
 verdict_read input =
     elim (cases_lt (2 ^ 26) (length input)) [
-      | inr short ↦ ap refused_text (short_input input short)
+      | inr short ↦ ap verdict (short_input input short)
       | inl long ↦ long_verdict (take (2 ^ 26 + 1) input) (omega (arith, length-take (2 ^ 26 + 1) input)) ∙ sym (long_verdict input long)
     ]
 
 -- an input without a fault is not too long
-good_is_short : (input : List ℕ) → refused_text input ≡ None → length input ≤ 2 ^ 26
+good_is_short : (input : List ℕ) → verdict input ≡ None → length input ≤ 2 ^ 26
 good_is_short input good =
     elim (cases_lt (2 ^ 26) (length input)) [
       | inr short ↦ short
@@ -56,20 +54,20 @@ nothing_left input short = nil_from_length (drop (2 ^ 26 + 1) input) (omega (ari
 
 -- what is known of an input whose text has no fault
 pub record IsGood (input text : List ℕ) (left : Option (List ℕ)) : Type 0 where
-  pub good : refused_text input ≡ None
+  pub good : verdict input ≡ None
   pub all : left ≡ Some []
   pub same : text ≡ input
 
-pub is_good : (input text : List ℕ) (left : Option (List ℕ)) → text ≡ take (2 ^ 26 + 1) input → WasRead input left → refused_text text ≡ None → IsGood input text left
+pub is_good : (input text : List ℕ) (left : Option (List ℕ)) → text ≡ take (2 ^ 26 + 1) input → WasRead input left → verdict text ≡ None → IsGood input text left
 is_good input text left e read good =
-    let g : refused_text input ≡ None = sym (verdict_read input) ∙ ap refused_text (sym e) ∙ good in
+    let g : verdict input ≡ None = sym (verdict_read input) ∙ ap verdict (sym e) ∙ good in
     let short = good_is_short input g in
     record { good = g; all = read ∙ ap (λ (l : List ℕ). Some l) (nothing_left input short); same = e ∙ short_input input short }
 
 -- the text of an input without a fault has none, and is the input
-pub good_text : (input text : List ℕ) → text ≡ take (2 ^ 26 + 1) input → refused_text input ≡ None → (refused_text text ≡ None) × (text ≡ input)
+pub good_text : (input text : List ℕ) → text ≡ take (2 ^ 26 + 1) input → verdict input ≡ None → (verdict text ≡ None) × (text ≡ input)
 good_text input text e good =
-    (ap refused_text e ∙ verdict_read input ∙ good, e ∙ short_input input (good_is_short input good))
+    (ap verdict e ∙ verdict_read input ∙ good, e ∙ short_input input (good_is_short input good))
 
 -- what a judgment of the text that was read says of the input
 pub judged_input : (status : Status) (input text : List ℕ) (left before after : Option (List ℕ)) → (text ≡ take (2 ^ 26 + 1) input) × WasRead input left
@@ -82,7 +80,7 @@ judged_input Done input text left before after read h =
 judged_input Usage input text left before after read h = absurd h
 judged_input (Refused fault) input text left before after read h =
     elim h [
-      | inl fixed ↦ inl (read.1, sym (verdict_read input) ∙ ap refused_text (sym read.0) ∙ fixed.0, fixed.1)
+      | inl fixed ↦ inl (read.1, sym (verdict_read input) ∙ ap verdict (sym read.0) ∙ fixed.0, fixed.1)
       | inr at_run ↦
           let g = is_good input text left read.0 read.1 at_run.0 in
           inr (
@@ -123,7 +121,7 @@ few_levels grid b h some few levels =
 too_great_is : (fault : Fault) → fault.code ≡ 19 → too_great fault.line ≡ fault
 too_great_is fault e = rw (← e) refl
 
-judged_told : (end : Ended) (text : List ℕ) (before after : Option (List ℕ)) → refused_text text ≡ None
+judged_told : (end : Ended) (text : List ℕ) (before after : Option (List ℕ)) → verdict text ≡ None
     → Ran end (told_of text) before after → Judges (status_of end) text before after
 judged_told ended.Done text before after good ran = (good, ap (option_map too_great) ran.0, ran.1)
 judged_told (ended.Refused fault) text before after good ran =
@@ -131,25 +129,15 @@ judged_told (ended.Refused fault) text before after good ran =
 judged_told ended.WriteFault text before after good ran = (good, ran)
 judged_told ended.Memory text before after good ran = inr (good, ran)
 
--- what is told before the run of a text without a fault
-pub told_before : (text : List ℕ) (checked : Checked) → IsChecked text checked → refused_text text ≡ not_run_in (map deed_in checked.steps)
-told_before text checked is = ap (λ v. or_else v (not_run_in (deeds_of text))) is.clean ∙ ap not_run_in (sym is.deeds)
-
 pub judged_run : (end : Ended) (text : List ℕ) (checked : Checked) (before after : Option (List ℕ)) → IsChecked text checked
-    → not_run_in (map deed_in checked.steps) ≡ None → Ran end (told_by [] (map deed_in checked.steps)) before after
-    → Judges (status_of end) text before after
-judged_run end text checked before after is run ran =
-    judged_told end text before after (told_before text checked is ∙ run)
+    → Ran end (told_by [] (map deed_in checked.steps)) before after → Judges (status_of end) text before after
+judged_run end text checked before after is ran =
+    judged_told end text before after is.clean
     (subst (λ deeds. Ran end (told_by [] deeds) before after) is.deeds ran)
-
--- a statement that is not run
-pub judged_not_run : (text : List ℕ) (checked : Checked) (fault : Fault) (before : Option (List ℕ)) → IsChecked text checked
-    → not_run_in (map deed_in checked.steps) ≡ Some fault → Judges (Refused fault) text before before
-judged_not_run text checked fault before is at = inl (told_before text checked is ∙ at, refl)
 
 -- a fault
 pub judged_fault : (text : List ℕ) (fault : Fault) (before : Option (List ℕ)) → verdict text ≡ Some fault → Judges (Refused fault) text before before
-judged_fault text fault before is = inl (ap (λ v. or_else v (not_run_in (deeds_of text))) is, refl)
+judged_fault text fault before is = inl (is, refl)
 
 -- ---- Where no device failed
 

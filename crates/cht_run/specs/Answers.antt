@@ -5,8 +5,7 @@ use Rattle.cht_io.specs.Bytes.{Adds, AddsFront}
 use Rattle.cht_run.specs.declared.status.Status.{Status}
 use Rattle.cht_run.specs.declared.status.Status.TheVariants.{Done, Usage, Refused, ReadFault, WriteFault, Memory}
 use Rattle.cht_script.specs.declared.script.Fault.{Fault}
-use Rattle.cht_script.specs.Verdict.{most_bytes}
-use Rattle.cht_script.specs.NotRun.{refused_text}
+use Rattle.cht_script.specs.Verdict.{most_bytes, verdict}
 use Rattle.cht_run.specs.Verdict.{meaning, refusal}
 
 -- whether the words are the one command that there is
@@ -22,19 +21,18 @@ WasRead input left = left ≡ Some (drop (most_bytes + 1) input)
 abbrev pub ReadUpTo : ℕ → List ℕ → Option (List ℕ) → Type 0
 ReadUpTo most input left = (n : ℕ) × (n ≤ most) × (left ≡ Some (drop n input))
 
--- the input was read to its end and is run, and what was written is so
+-- the input was read to its end and has no fault, and what was written is so
 abbrev pub IsRun : List ℕ → Option (List ℕ) → Type 0 → Type 0
-IsRun input left written = (left ≡ Some []) × (refused_text input ≡ None) × written
+IsRun input left written = (left ≡ Some []) × (verdict input ≡ None) × written
 
--- a front of what the input means was written, where it was read to its end and is run
+-- a front of what the input means was written, where it was read to its end and has no fault
 abbrev pub WritesFront : List ℕ → Option (List ℕ) → Option (List ℕ) → Option (List ℕ) → Type 0
 WritesFront input left before after = IsRun input left (AddsFront before (meaning input) after)
 
--- nothing is run for the input, and nothing was written; or it was refused at its run, and what the statements before mean was
--- written
+-- the input has a fault, and nothing was written; or it was refused at its run, and what the statements before mean was written
 abbrev pub IsRefused : Fault → List ℕ → Option (List ℕ) → Option (List ℕ) → Option (List ℕ) → Type 0
 IsRefused fault input left before after =
-    (WasRead input left × (refused_text input ≡ Some fault) × (after ≡ before))
+    (WasRead input left × (verdict input ≡ Some fault) × (after ≡ before))
     ⊎ ((refusal input ≡ Some fault) × IsRun input left (Adds before (meaning input) after))
 
 -- What a status says: of an input, what was left of it, and what the sink had taken before and after.
@@ -65,4 +63,4 @@ status_by None None = Done
 
 -- the answer for an input where neither memory nor a device fails
 abbrev pub status_for : List ℕ → Status
-status_for input = status_by (refused_text input) (refusal input)
+status_for input = status_by (verdict input) (refusal input)

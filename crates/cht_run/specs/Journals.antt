@@ -10,7 +10,7 @@ use Rattle.quad_matrix.specs.Names.{what_name}
 use Rattle.quad_matrix.specs.Matrices.{matrices}
 use Rattle.cht_script.specs.Items.{Heading, heading_of}
 use Rattle.cht_script.specs.Meaning.{Deed, deeds_of}
-use Rattle.cht_script.specs.NotRun.{refused_text}
+use Rattle.cht_script.specs.Verdict.{verdict}
 use Rattle.cht_script.specs.Reading.{IsLeastHeight}
 use Rattle.cht_session.specs.Program.{IsProgram, done_of}
 use Rattle.cht_session.specs.Works.{works_by}
@@ -37,7 +37,7 @@ abbrev pub Journals : Status → List ℕ → List (Event MatKind) → Type 0
 -- all statements were done
 Journals Done text events = IsJournalOf text (deeds_of text) events
 -- where the text has no fault before its run, the statements before the one that is refused were done
-Journals (Refused fault) text events = refused_text text ≡ None → IsJournalOf text (done_of [] (deeds_of text)) events
+Journals (Refused fault) text events = verdict text ≡ None → IsJournalOf text (done_of [] (deeds_of text)) events
 -- nothing is said but that the events can be replayed, to the empty state
 Journals WriteFault text events = Unit {0}
 Journals Memory text events = Unit {0}

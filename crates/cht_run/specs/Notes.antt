@@ -28,8 +28,7 @@ fault_name code =
     else if code == 16 then codes "Taken"
     else if code == 17 then codes "Shape"
     else if code == 18 then codes "Form"
-    else if code == 19 then codes "Magnitude"
-    else codes "NotBuilt"
+    else codes "Magnitude"
 
 -- where a fault is, and which
 abbrev pub place_note : Fault → List ℕ

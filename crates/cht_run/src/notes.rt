@@ -90,7 +90,6 @@ fn name_of(code: u32) -> &'static [u8]
         16 => b"Taken",
         17 => b"Shape",
         18 => b"Form",
-        19 => b"Magnitude",
-        _ => b"NotBuilt",
+        _ => b"Magnitude",
     }
 }

@@ -1,7 +1,7 @@
 ghost use Rattle.std.specs.Prelude.{◌≡◌, ◌≢◌, ◌⊎◌, List, ℕ, [], Some, IfOk};
 ghost use Rattle.cht_io.specs.Faults.{Rose};
 ghost use Rattle.cht_engine.specs.Closing.{EndsEmpty};
-ghost use Rattle.cht_script.specs.Checking.{IsChecked, IsJudged};
+ghost use Rattle.cht_script.specs.Checking.{IsJudged};
 ghost use Rattle.cht_script.specs.Parsing.{IsParsed};
 ghost use Rattle.cht_run.specs.Answers.{Answers, IsSilent, status_for};
 ghost use Rattle.cht_run.specs.Journals.{matrix_plans, Journals};
@@ -15,7 +15,7 @@ use crate::status::Status;
 use cht_core::Record;
 use cht_ids::Memory;
 use cht_io::{Sink, Source};
-use cht_script::{Checked, Script, ScriptRefused, check, not_run_yet, parse};
+use cht_script::{Checked, Script, ScriptRefused, check, parse};
 use cht_session::MatLib;
 use std::alloc::Global;
 
@@ -94,7 +94,7 @@ fn judge<K: Sink>(alloc: Global, text: Vec<u8>, out: &mut K, journal: &mut Recor
     ensures journaled { Journals result text.items journal.new }
 {
     match examine(alloc, text) {
-        Ok(checked) => run_checked(alloc, &checked, out, journal),
+        Ok(checked) => run_on_engine(alloc, &checked, out, journal),
         Err(ScriptRefused::Fault(fault)) => Status::Refused(fault),
         Err(ScriptRefused::Memory) => Status::Memory,
     }
@@ -113,26 +113,4 @@ fn read_script(alloc: Global, text: Vec<u8>) -> Result<Script, Memory>
     ensures { IfOk result (IsParsed text.items) }
 {
     parse(alloc, &text)
-}
-
-// Runs a script without a fault, if all of its statements are run.
-fn run_checked<K: Sink>(
-    alloc: Global,
-    checked: &Checked,
-    out: &mut K,
-    journal: &mut Record<MatLib>,
-) -> Status
-    requires checked { (text : List ℕ) × IsChecked text checked.now }
-    requires empty { journal.old ≡ [] }
-    ensures judged { (text : List ℕ) → IsChecked text checked.now → Judges result text (K.took out.old) (K.took out.new) }
-    ensures silent { IsSilent result → K.took out.new ≡ K.took out.old }
-    ensures write_fault { result ≡ Status.WriteFault → Rose (K.faults out.old) (K.faults out.new) }
-    ensures ends_empty { EndsEmpty matrix_plans journal.new }
-    ensures no_events { IsSilent result → journal.new ≡ [] }
-    ensures journaled { (text : List ℕ) → IsChecked text checked.now → Journals result text journal.new }
-{
-    match not_run_yet(checked) {
-        Some(fault) => Status::Refused(fault),
-        None => run_on_engine(alloc, checked, out, journal),
-    }
 }

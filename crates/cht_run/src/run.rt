@@ -1,7 +1,6 @@
-ghost use Rattle.std.specs.Prelude.{◌≡◌, List, ℕ, [], None, map};
+ghost use Rattle.std.specs.Prelude.{◌≡◌, List, ℕ, []};
 ghost use Rattle.cht_io.specs.Faults.{Rose};
-ghost use Rattle.cht_script.specs.Checking.{IsChecked, deed_in};
-ghost use Rattle.cht_script.specs.NotRun.{not_run_in};
+ghost use Rattle.cht_script.specs.Checking.{IsChecked};
 ghost use Rattle.cht_engine.specs.Closing.{EndsEmpty};
 ghost use Rattle.cht_run.specs.Answers.{IsSilent};
 ghost use Rattle.cht_run.specs.Judged.{Judges};
@@ -27,9 +26,9 @@ pub(crate) fn run_on_engine<K: Sink>(
     journal: &mut Record<MatLib>,
 ) -> Status
     requires checked { (text : List ℕ) × IsChecked text checked.now }
-    requires run { not_run_in (map deed_in checked.now.steps) ≡ None }
     requires empty { journal.old ≡ [] }
     ensures judged { (text : List ℕ) → IsChecked text checked.now → Judges result text (K.took out.old) (K.took out.new) }
+    ensures silent { IsSilent result → K.took out.new ≡ K.took out.old }
     ensures write_fault { result ≡ Status.WriteFault → Rose (K.faults out.old) (K.faults out.new) }
     ensures ends_empty { EndsEmpty matrix_plans journal.new }
     ensures no_events { IsSilent result → journal.new ≡ [] }

@@ -4,7 +4,6 @@ pub mod Items
 pub mod Newest
 pub mod Verdict
 pub mod Meaning
-pub mod NotRun
 pub mod Reading
 pub mod Limits
 pub mod Parsing

@@ -1,11 +1,10 @@
 //! The script language: lines, statements, what is wrong with a text, and what it means.
 #![tactic(auto)]
 
-ghost use Rattle.std.specs.Prelude.{◌≡◌, ℕ, List, IfOk, map, Ok, Err};
+ghost use Rattle.std.specs.Prelude.{◌≡◌, ℕ, List, IfOk, Ok, Err};
 ghost use Rattle.cht_script.specs.Limits.{AreLimits};
 ghost use Rattle.cht_script.specs.Parsing.{IsParsed, IsParsedOfSome, front_of};
-ghost use Rattle.cht_script.specs.Checking.{IsFaultOf, IsJudgedAsRead, deed_in};
-ghost use Rattle.cht_script.specs.NotRun.{not_run_in};
+ghost use Rattle.cht_script.specs.Checking.{IsFaultOf, IsJudgedAsRead};
 ghost use Rattle.cht_script.specs.Progress.{IsReadBehind};
 ghost use Rattle.cht_script.specs.Steps.{heading_told};
 
@@ -103,22 +102,4 @@ pub fn check(alloc: Global, script: Script) -> Result<Checked, ScriptRefused>
         height: height(grid, leaf),
         steps,
     })
-}
-
-/// The first statement that is not run yet: a matrix in the symmetric form, or one that wants such a matrix, `square` or
-/// `full`. Its fault has the line of the statement, and code 20.
-pub fn not_run_yet(checked: &Checked) -> Option<Fault>
-    ensures { result ≡ not_run_in (map deed_in checked.now.steps) }
-{
-    let mut left = checked.steps.as_slice();
-    while let [step, behind @ ..] = left {
-        left = behind;
-        if !step.statement.is_run() {
-            return Some(Fault {
-                line: step.statement.line(),
-                code: 20,
-            });
-        }
-    }
-    None
 }

@@ -1,12 +1,11 @@
 ghost use Rattle.std.specs.Prelude.{◌≡◌, true, false, MatchOption};
 ghost use Rattle.cht_script.specs.Words.{is_name};
 ghost use Rattle.cht_script.specs.Meaning.{line_of};
-ghost use Rattle.cht_script.specs.NotRun.{is_run_verb, is_run};
 ghost use Rattle.cht_script.specs.Reading.{name_bytes, deed_of};
 
 use crate::words::is_name;
 use cht_ids::List;
-use mm_text::{Form, Market};
+use mm_text::Market;
 
 /// A name: an ASCII letter, then letters, digits and `_`, 1 to 32 bytes in all. What stands past its bytes says nothing.
 #[derive(Clone, Copy)]
@@ -55,19 +54,6 @@ pub enum Verb {
     Delete,
 }
 
-impl Verb {
-    // Whether statements with this verb are run so far.
-    fn is_run(self) -> bool
-        ensures { result ≡ is_run_verb self }
-    {
-        match self {
-            Verb::Copy | Verb::Add | Verb::Mul | Verb::TMul | Verb::MulT => true,
-            Verb::Trace | Verb::Count | Verb::Print | Verb::Delete => true,
-            Verb::Square | Verb::Full => false,
-        }
-    }
-}
-
 /// The names of a statement in the order of its line, the bound name first: the first `count` of them. Those past `count`
 /// repeat the first.
 #[derive(Clone, Copy)]
@@ -95,16 +81,6 @@ impl Statement {
         match self {
             Statement::Market { line, .. } => *line,
             Statement::Act { line, .. } => *line,
-        }
-    }
-
-    // Whether it is run so far.
-    pub(crate) fn is_run(&self) -> bool
-        ensures { result ≡ is_run (deed_of self.now) }
-    {
-        match self {
-            Statement::Market { market, .. } => market.form == Form::General,
-            Statement::Act { verb, .. } => verb.is_run(),
         }
     }
 }

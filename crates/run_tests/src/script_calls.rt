@@ -1,6 +1,6 @@
 //! The calls of `cht_script`.
 use cht_ids::Memory;
-use cht_script::{Fault, ScriptRefused, Statement, Verb, check, not_run_yet, parse};
+use cht_script::{Fault, ScriptRefused, Statement, Verb, check, parse};
 use mm_text::Form;
 use std::alloc::Global;
 use std::test::Fail;
@@ -28,7 +28,6 @@ fn statements_are_read_and_judged(rt: HostRuntime) -> Result<(), Fail> {
     assert_eq!(rt; step.shapes.count, 3);
     assert_eq!(rt; [step.shapes.first.rows, step.shapes.first.columns], [1, 2]);
     assert_eq!(rt; step.shapes.first.form, Form::General);
-    assert!(rt; not_run_yet(&checked).is_none());
     Ok(())
 }
 

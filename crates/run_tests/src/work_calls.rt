@@ -15,6 +15,14 @@ const BANNER: &[u8] = b"%%MatrixMarket matrix coordinate integer general\n";
 const SPARSE: &[u8] =
     b"grid 4 leaf 2\nmarket a\n%%MatrixMarket matrix coordinate integer general\n4 4 2\n1 1 2\n3 3 5\nmarket b\n%%MatrixMarket matrix coordinate integer general\n4 4 2\n1 3 7\n3 1 1\n";
 
+// A symmetric matrix that has a number in each of the quadrants that are kept.
+const SYMMETRIC: &[u8] =
+    b"grid 4 leaf 2\nmarket s\n%%MatrixMarket matrix coordinate integer symmetric\n4 4 4\n1 1 1\n2 1 2\n3 1 3\n4 4 -1\n";
+
+// A symmetric matrix and a general one, each with leaves of side 1.
+const BOTH_FORMS: &[u8] =
+    b"grid 2 leaf 1\nmarket s\n%%MatrixMarket matrix coordinate integer symmetric\n2 2 2\n1 1 1\n2 1 2\nmarket x\n%%MatrixMarket matrix coordinate integer general\n2 2 2\n1 1 3\n2 2 5\n";
+
 fn push_number(text: &mut List<u8>, number: u32, behind: &[u8]) -> Result<(), Memory> {
     text.extend(write_number(i128::from(number)).as_bytes())?;
     text.extend(behind)
@@ -51,10 +59,10 @@ fn ones(alloc: Global, side: u32, statements: &[u8]) -> Result<List<u8>, Memory>
     Ok(text)
 }
 
-// The two sparse matrices, and statements behind them.
-fn sparse(alloc: Global, statements: &[u8]) -> Result<List<u8>, Memory> {
+// Some matrices, and statements behind them.
+fn script(alloc: Global, matrices: &[u8], statements: &[u8]) -> Result<List<u8>, Memory> {
     let mut text = List::new(alloc);
-    text.extend(SPARSE)?;
+    text.extend(matrices)?;
     text.extend(statements)?;
     Ok(text)
 }
@@ -98,8 +106,26 @@ fn products_take_the_tasks_of_their_plans(rt: HostRuntime) -> Result<(), Fail> {
         let without = ones(alloc, side, b"")?;
         assert_eq!(rt; more(alloc, with, without)?, Some(tasks));
     }
-    let with = sparse(alloc, b"mul c a b\n")?;
-    let without = sparse(alloc, b"")?;
+    let with = script(alloc, SPARSE, b"mul c a b\n")?;
+    let without = script(alloc, SPARSE, b"")?;
     assert_eq!(rt; more(alloc, with, without)?, Some(4));
+    Ok(())
+}
+
+// How many tasks a statement behind some matrices takes.
+fn tasks(alloc: Global, matrices: &[u8], statement: &[u8]) -> Result<Option<u64>, Memory> {
+    let with = script(alloc, matrices, statement)?;
+    let without = script(alloc, matrices, b"")?;
+    more(alloc, with, without)
+}
+
+#[test]
+fn products_of_symmetric_matrices_take_the_tasks_of_their_plans(
+    rt: HostRuntime,
+) -> Result<(), Fail> {
+    let alloc = rt.alloc();
+    assert_eq!(rt; tasks(alloc, SYMMETRIC, b"square q s\n")?, Some(11));
+    assert_eq!(rt; tasks(alloc, BOTH_FORMS, b"mul c s x\n")?, Some(5));
+    assert_eq!(rt; tasks(alloc, BOTH_FORMS, b"mul d x s\n")?, Some(5));
     Ok(())
 }
