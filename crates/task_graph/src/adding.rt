@@ -77,7 +77,7 @@ impl<K: Copy> Parts<K> {
             if let Slot::Awaits(awaited, number) = slot {
                 let spot = Spot {
                     task,
-                    place: place as u32,
+                    place: place as u8,
                 };
                 self.join(spot, *awaited, *number);
             }

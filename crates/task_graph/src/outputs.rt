@@ -39,7 +39,7 @@ impl<K: Copy> Parts<K> {
                 let link = self.entries.link(spot);
                 let input = Awaiter::Input {
                     task: spot.task,
-                    place: spot.place,
+                    place: spot.place as u32,
                     number: link.number,
                 };
                 match asked {
@@ -122,6 +122,7 @@ impl<K: Copy> Parts<K> {
                     ..
                 },
             ) => {
+                let place = place as u8;
                 self.settle(Spot { task: of, place }, r);
                 Some(of)
             }

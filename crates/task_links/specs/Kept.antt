@@ -5,20 +5,20 @@ use Rattle.task_links.specs.declared.entries.Entry.{Entry}
 use Rattle.task_links.specs.declared.entries.Place.{Place}
 use Rattle.task_links.specs.declared.entries.Place.TheVariants.{Known, Awaits}
 use Rattle.task_links.specs.declared.entries.Spot.{Spot}
-use Rattle.task_links.specs.declared.kept.Halves.{Halves}
 use Rattle.task_links.specs.declared.kept.Kept.{Kept}
 use Rattle.task_links.specs.declared.kept.KeptEnds.{KeptEnds}
 use Rattle.task_links.specs.declared.kept.KeptEnds.TheVariants.{Neither, First, Last, Both}
 use Rattle.task_links.specs.declared.kept.KeptPlace.{KeptPlace}
 use Rattle.task_links.specs.declared.kept.KeptPlace.TheVariants.{Null, Refers, Last as LastLink, Linked}
+use Rattle.task_links.specs.declared.kept.Quarters.{Quarters}
 
--- the number of two halves
-abbrev pub joined : Halves → ℕ
-joined halves = halves.high * 2 ^ 64 + halves.low
+-- the number of four quarters
+abbrev pub joined : Quarters → ℕ
+joined number = (number.high * 2 ^ 32 + number.third) * 2 ^ 64 + (number.second * 2 ^ 32 + number.low)
 
--- the number of two halves, if it is there
-abbrev pub joined_if : Halves → Bool → Option ℕ
-joined_if halves there = cond there (Some (joined halves)) None
+-- the number of four quarters, if it is there
+abbrev pub joined_if : Quarters → Bool → Option ℕ
+joined_if number there = cond there (Some (joined number)) None
 
 -- an input
 abbrev pub opened_place : KeptPlace → Place

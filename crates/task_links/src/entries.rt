@@ -10,7 +10,7 @@ ghost use Rattle.task_links.specs.Kept.{opened, opened_place, joined_if};
 ghost use Rattle.task_links.specs.Weave.{head_at, link_at, with_next, with_joined, with_passed, with_joined_at, with_passed_at, IsBeside, count_of};
 ghost use Rattle.task_links.specs.Order.{with_after_at, with_before_at};
 
-use crate::kept::{Halves, Kept, KeptPlace, kept_place, link_in, split_if};
+use crate::kept::{Kept, KeptPlace, Quarters, kept_place, link_in, split_if};
 use cht_ids::Ref;
 use std::collections::HashMap;
 
@@ -18,7 +18,7 @@ use std::collections::HashMap;
 #[derive(Clone, Copy)]
 pub struct Spot {
     pub task: u128,
-    pub place: u32,
+    pub place: u8,
 }
 
 /// What an awaiting input awaits, under which number, and the next input that awaits the same task.
@@ -195,7 +195,7 @@ impl<K: Copy> Entries<K> {
 
     // Writes the task that follows a task, as it is kept.
     #[inline(always)]
-    fn write_after(&mut self, task: u128, after: Halves, has_after: bool)
+    fn write_after(&mut self, task: u128, after: Quarters, has_after: bool)
         requires { IsSome (entries_at self.old task) }
         ensures at { (q : ℕ) → entries_at self.new q ≡ option_map (with_follower_at q task (joined_if after has_after)) (entries_at self.old q) }
         ensures size { IsSameSize self.old self.new }
@@ -208,7 +208,7 @@ impl<K: Copy> Entries<K> {
 
     // Writes the task that stands before a task, as it is kept.
     #[inline(always)]
-    fn write_before(&mut self, task: u128, before: Halves, has_before: bool)
+    fn write_before(&mut self, task: u128, before: Quarters, has_before: bool)
         requires { IsSome (entries_at self.old task) }
         ensures at { (q : ℕ) → entries_at self.new q ≡ option_map (with_leader_at q task (joined_if before has_before)) (entries_at self.old q) }
         ensures size { IsSameSize self.old self.new }
@@ -258,7 +258,7 @@ impl<K: Copy> Entries<K> {
 
     // Writes the number of a task's asked output, as it is kept.
     #[inline(always)]
-    fn write_asked(&mut self, task: u128, asked: Halves, is_asked: bool)
+    fn write_asked(&mut self, task: u128, asked: Quarters, is_asked: bool)
         requires { IsSome (entries_at self.old task) }
         ensures at { (q : ℕ) → entries_at self.new q ≡ option_map (with_asked_at q task (joined_if asked is_asked)) (entries_at self.old q) }
         ensures size { IsSameSize self.old self.new }

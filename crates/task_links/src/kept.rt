@@ -1,6 +1,6 @@
-// Entries of tasks as they are kept: numbers in halves, so that nothing is aligned to 16 bytes, and few bytes for what may be
-// missing. Fields stand by falling alignment.
-ghost use Rattle.std.specs.Prelude.{◌≡◌, ◌<◌, ◌≤◌, map as each, set, slice_get, Some, IsSome, IfSome};
+// Entries of tasks as they are kept: numbers in quarters, so that nothing is aligned to more than 4 bytes, and few bytes for what
+// may be missing.
+ghost use Rattle.std.specs.Prelude.{◌≡◌, ◌<◌, ◌≤◌, ◌+◌, ◌*◌, ◌^◌, map as each, set, slice_get, Some, IsSome, IfSome};
 ghost use Rattle.task_links.specs.declared.entries.Place.TheVariants.{Awaits};
 ghost use Rattle.std.specs.List.{list_any};
 ghost use Rattle.task_states.specs.States.{is_awaiting, status_of};
@@ -12,11 +12,13 @@ use crate::entries::{Entry, Link, Place, Spot};
 use cht_ids::{Id, Ref};
 use task_states::TaskStatus;
 
-/// A number of 128 bits: 2^64 times the high half, and the low one.
+/// A number of 128 bits in quarters: 2^32, 2^64 and 2^96 times the others, and the low one.
 #[derive(Clone, Copy)]
-pub struct Halves {
-    pub high: u64,
-    pub low: u64,
+pub struct Quarters {
+    pub low: u32,
+    pub second: u32,
+    pub third: u32,
+    pub high: u32,
 }
 
 /// An input: null; the owner and the number of a reference; the awaited task and the input's own number, without a next
@@ -24,18 +26,18 @@ pub struct Halves {
 #[derive(Clone, Copy)]
 pub enum KeptPlace {
     Null,
-    Refers(u32, Halves),
-    Last(Halves, Halves),
-    Linked(u32, Halves, Halves, Halves),
+    Refers(u32, Quarters),
+    Last(Quarters, Quarters),
+    Linked(u8, Quarters, Quarters, Quarters),
 }
 
 /// The first and the last input of a list: places come before tasks.
 #[derive(Clone, Copy)]
 pub enum KeptEnds {
     Neither,
-    First(u32, Halves),
-    Last(u32, Halves),
-    Both(u32, u32, Halves, Halves),
+    First(u8, Quarters),
+    Last(u8, Quarters),
+    Both(u8, u8, Quarters, Quarters),
 }
 
 /// An entry. A number counts where its flag is set.
@@ -43,9 +45,9 @@ pub enum KeptEnds {
 pub struct Kept<K> {
     pub places: [KeptPlace; 4],
     pub ends: KeptEnds,
-    pub asked: Halves,
-    pub before: Halves,
-    pub after: Halves,
+    pub asked: Quarters,
+    pub before: Quarters,
+    pub after: Quarters,
     pub runner: Option<u32>,
     pub caller: u32,
     pub count: u32,
@@ -55,44 +57,70 @@ pub struct Kept<K> {
     pub kind: K,
 }
 
+const _: () = prove!(size_of::<KeptPlace>() == 52);
+
+const _: () = prove!(size_of::<KeptEnds>() == 36);
+
+const QUARTER: u64 = 0x1_0000_0000;
+
 const HALF: u128 = 0x1_0000_0000_0000_0000;
 
-// A number in halves.
+// Two quarters as one number.
 #[inline(always)]
-fn split(number: u128) -> Halves
-    ensures { joined result ≡ number }
+fn half(low: u32, high: u32) -> u64
+    ensures { result ≡ high * 2 ^ 32 + low }
 {
-    Halves {
-        high: (number / HALF) as u64,
-        low: (number % HALF) as u64,
+    high as u64 * QUARTER + low as u64
+}
+
+// The quarters of two numbers of 64 bits.
+#[inline(always)]
+fn joint(low: u64, high: u64) -> Quarters
+    ensures { joined result ≡ high * 2 ^ 64 + low }
+{
+    Quarters {
+        low: (low % QUARTER) as u32,
+        second: (low / QUARTER) as u32,
+        third: (high % QUARTER) as u32,
+        high: (high / QUARTER) as u32,
     }
 }
 
-// The number of two halves.
+// A number in quarters.
 #[inline(always)]
-fn whole(halves: Halves) -> u128
-    ensures { result ≡ joined halves }
+fn split(number: u128) -> Quarters
+    ensures { joined result ≡ number }
 {
-    halves.high as u128 * HALF + halves.low as u128
+    joint((number % HALF) as u64, (number / HALF) as u64)
 }
 
-// A number that may be missing, in halves, and whether it is there.
+// The number of four quarters.
 #[inline(always)]
-pub(crate) fn split_if(number: Option<u128>) -> (Halves, bool)
+fn whole(number: Quarters) -> u128
+    ensures { result ≡ joined number }
+{
+    let low = half(number.low, number.second);
+    let high = half(number.third, number.high);
+    high as u128 * HALF + low as u128
+}
+
+// A number that may be missing, in quarters, and whether it is there.
+#[inline(always)]
+pub(crate) fn split_if(number: Option<u128>) -> (Quarters, bool)
     ensures { joined_if result.0 result.1 ≡ number }
 {
     match number {
-        None => (Halves { high: 0, low: 0 }, false),
+        None => (joint(0, 0), false),
         Some(number) => (split(number), true),
     }
 }
 
-// The number of two halves, if it is there.
+// The number of four quarters, if it is there.
 #[inline(always)]
-fn whole_if(halves: Halves, there: bool) -> Option<u128>
-    ensures { result ≡ joined_if halves there }
+fn whole_if(number: Quarters, there: bool) -> Option<u128>
+    ensures { result ≡ joined_if number there }
 {
-    if there { Some(whole(halves)) } else { None }
+    if there { Some(whole(number)) } else { None }
 }
 
 // An awaiting input as it is kept.
@@ -209,9 +237,9 @@ pub(crate) fn kept_ends(first: Option<Spot>, last: Option<Spot>) -> KeptEnds
     }
 }
 
-// An input by its task in halves and its place.
+// An input by its task in quarters and its place.
 #[inline(always)]
-fn spot(task: Halves, place: u32) -> Spot
+fn spot(task: Quarters, place: u8) -> Spot
     ensures { result ≡ record { task = joined task; place = place } }
 {
     Spot {
@@ -367,7 +395,7 @@ impl<K: Copy> Kept<K> {
         ensures few { IfSome result (λ _. at < 4) }
     {
         if at < self.count {
-            Some(place(self.place(at)))
+            Some(place(self.place(at as u8)))
         } else {
             None
         }
@@ -375,7 +403,7 @@ impl<K: Copy> Kept<K> {
 
     // The input at a place, as it is kept.
     #[inline(always)]
-    pub(crate) fn place(&self, place: u32) -> KeptPlace
+    pub(crate) fn place(&self, place: u8) -> KeptPlace
         requires { IsSome (slice_get (inputs_of (opened self.now)) place) }
         ensures { slice_get (inputs_of (opened self.now)) place ≡ Some (opened_place result) }
     {
@@ -384,7 +412,7 @@ impl<K: Copy> Kept<K> {
 
     // Writes the input at a place.
     #[inline(always)]
-    fn set_place(&mut self, place: u32, kept: KeptPlace)
+    fn set_place(&mut self, place: u8, kept: KeptPlace)
         requires { IsSome (slice_get (inputs_of (opened self.old)) place) }
         ensures { opened self.new ≡ record (opened self.old) { places = set (opened self.old).places place (opened_place kept) } }
     {
@@ -393,7 +421,7 @@ impl<K: Copy> Kept<K> {
 
     // Writes the input at a place. Answers the one that was there.
     #[inline(always)]
-    pub(crate) fn swap_place(&mut self, place: u32, kept: KeptPlace) -> KeptPlace
+    pub(crate) fn swap_place(&mut self, place: u8, kept: KeptPlace) -> KeptPlace
         requires { IsSome (slice_get (inputs_of (opened self.old)) place) }
         ensures was { slice_get (inputs_of (opened self.old)) place ≡ Some (opened_place result) }
         ensures written { opened self.new ≡ record (opened self.old) { places = set (opened self.old).places place (opened_place kept) } }

@@ -10,5 +10,5 @@ mod weave;
 
 pub use callers::{Caller, Callers};
 pub use entries::{Entries, Entry, Link, Place, Spot};
-pub use kept::{Halves, Kept, KeptEnds, KeptPlace};
+pub use kept::{Kept, KeptEnds, KeptPlace, Quarters};
 pub use queue::Queue;
