@@ -93,6 +93,22 @@ impl Children {
         }
     }
 
+    /// Child `j`, counted from 0; `None` past the last one.
+    pub fn nth(&self, j: u32) -> Option<Ref>
+        ensures { result ≡ slice_get (refs_of self.now) j }
+    {
+        if j >= self.count {
+            return None;
+        }
+        match j {
+            0 => Some(self.first),
+            1 => Some(self.second),
+            2 => Some(self.third),
+            3 => Some(self.fourth),
+            _ => None,
+        }
+    }
+
     /// Child `j`, counted from 0.
     pub fn get(&self, j: u32) -> Ref
         requires { j < length (refs_of self.now) }

@@ -1,4 +1,4 @@
-ghost use Rattle.std.specs.Prelude.{◌≡◌, ◌↔◌, ℕ, ◌+◌, ◌≤◌, ◌<◌, ◌^◌, length, map as each, slice_get, Some, None, IsSome, IfOk, OnOk, OnErr, IsOk};
+ghost use Rattle.std.specs.Prelude.{◌≡◌, ◌↔◌, ℕ, ◌+◌, ◌≤◌, ◌<◌, ◌^◌, length, map as each, slice_get, Some, None, IsSome, IfSome, IfOk, OnOk, OnErr, IsOk};
 ghost use Rattle.std.specs.Option.{ForSome};
 ghost use Rattle.cht_ids.specs.declared.refs.Ref.TheVariants.{Id as Held};
 ghost use Rattle.task_types.specs.Tree.{rooted, child};
@@ -204,6 +204,19 @@ impl<C: Payload> Refs<C> {
         ensures tree { tree_of self.now.names result ≡ child (tree_of self.now.names (Held id)) j }
     {
         self.parts.chunk_of(id).children.get(j)
+    }
+
+    /// The identifier that the body of a live identifier holds for its child `j`, counted from 0, or null; `None` past the last child.
+    /// What is answered is live.
+    pub fn nth_child(&self, id: Id, j: u32) -> Option<Ref>
+        requires { IsLive self.now.names id }
+        ensures value { result ≡ slice_get (children_of self.now.names id) j }
+        ensures live { IfSome result (IsLiveRef self.now.names) }
+    {
+        match self.parts.chunk_of(id).children.nth(j) {
+            None => None,
+            Some(child) => Some(child),
+        }
     }
 
     /// Who holds an identifier; `None` exactly where it is not live.

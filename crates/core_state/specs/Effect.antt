@@ -27,16 +27,16 @@ task_named numbers (Chunk i) = None
 task_named numbers (Task i) = Some (number_at numbers i)
 
 module _ {K : Type 0} where
-  -- What an outcome fills: the references of the task's inputs are there, and the rest is empty and has room for 8 chunks, 16 tasks, and all
-  -- tasks that can become Ready.
-  pub record HasRoom (graph : Graph Ref K) (task : ℕ) (space : Space) : Type 0 where
+  -- What an outcome fills: the references of the task's inputs are there, and the rest is empty and has room for so many new chunks and new
+  -- tasks, and for all tasks that can become Ready.
+  pub record HasRoom (graph : Graph Ref K) (task new_chunks new_tasks : ℕ) (space : Space) : Type 0 where
     pub inputs : (ran : Unfinished Ref K) → task_at graph task ≡ Some ran → space.inputs.items ≡ each ref_known ran.inputs
     pub made : space.made.items ≡ []
     pub numbers : space.numbers.items ≡ []
     pub ready : space.ready.items ≡ []
-    pub chunks : 8 ≤ vec_capacity space.made
-    pub tasks : 16 ≤ vec_capacity space.numbers
-    pub all : 16 + length (awaiters graph task) ≤ vec_capacity space.ready
+    pub chunks : new_chunks ≤ vec_capacity space.made
+    pub tasks : new_tasks ≤ vec_capacity space.numbers
+    pub all : new_tasks + length (awaiters graph task) ≤ vec_capacity space.ready
 
   -- where the result of a task is the output of a new one, all that awaits the task may be handed to that one
   pub record CanForward (graph : Graph Ref K) (task : ℕ) (numbers : List ℕ) (i : ℕ) : Type 0 where

@@ -73,7 +73,7 @@ fn read_inputs<K: Copy>(alloc: Global, graph: &Tasks<K>, task: TaskNo) -> Result
 fn child_places<C: Payload>(alloc: Global, chunks: &[NewChunk<C>]) -> Result<List<Places>, Memory>
     ensures { IfOk result (λ places. places ≡ each (λ chunk. chunk.children) chunks.now) }
 {
-    let mut places = Vec::new(alloc);
+    let mut places = Vec::with_capacity(alloc, chunks.len())?;
     for chunk in chunks {
         places.push(chunk.children)?;
     }
@@ -106,22 +106,25 @@ fn make_finish_room<C: Payload, K: Copy>(
     Ok(count)
 }
 
-// What an outcome fills, with room for all of it.
+// What an outcome with so many new chunks and new tasks fills, with room for all of it. A list of none takes no memory.
 fn make_space<K: Copy>(
     alloc: Global,
     graph: &Tasks<K>,
     task: TaskNo,
     count: u32,
+    chunks: usize,
+    tasks: usize,
 ) -> Result<Space, Memory>
     requires there { IsSome (task_at graph.now.graph task) }
     requires count { count ≡ length (awaiters graph.now.graph task) }
     requires few { count < 2 ^ 31 }
-    ensures { IfOk result (HasRoom graph.now.graph task) }
+    requires few_tasks { tasks < 2 ^ 63 }
+    ensures { IfOk result (HasRoom graph.now.graph task chunks tasks) }
 {
     let inputs = read_inputs(alloc, graph, task)?;
-    let made = Vec::with_capacity(alloc, 8)?;
-    let numbers = Vec::with_capacity(alloc, 16)?;
-    let ready = Vec::with_capacity(alloc, 16 + count as usize)?;
+    let made = Vec::with_capacity(alloc, chunks)?;
+    let numbers = Vec::with_capacity(alloc, tasks)?;
+    let ready = Vec::with_capacity(alloc, tasks + count as usize)?;
     Ok(Space {
         inputs,
         made,
@@ -209,21 +212,23 @@ fn prepare<C: Payload, K: Copy>(
     w: u32,
     task: TaskNo,
     chunks: &[NewChunk<C>],
+    tasks: usize,
 ) -> Result<(List<Places>, Space), Memory>
     requires worker { w < workers_of names.old }
     requires there { IsSome (task_at graph.old.graph task) }
+    requires few { tasks < 2 ^ 63 }
     ensures names { names.new.names ≡ names.old.names }
     ensures stores { length names.new.room.bodies ≡ length names.old.room.bodies }
     ensures graph { graph.new.graph ≡ graph.old.graph }
     ensures places { IfOk result (λ both. both.0 ≡ each (λ chunk. chunk.children) chunks.now) }
-    ensures space { IfOk result (λ both. HasRoom graph.old.graph task both.1) }
+    ensures space { IfOk result (λ both. HasRoom graph.old.graph task (length chunks.now) tasks both.1) }
     ensures bodies { OnOk result (8 ≤ spare_of names.new w) }
     ensures ids { OnOk result (104 + length (awaiters graph.old.graph task) ≤ names.new.room.ids) }
     ensures tasks { OnOk result (16 ≤ graph.new.spare) }
 {
     let places = child_places(alloc, chunks)?;
     let count = make_finish_room(names, graph, w, task)?;
-    let space = make_space(alloc, graph, task, count)?;
+    let space = make_space(alloc, graph, task, count, chunks.len(), tasks)?;
     Ok((places, space))
 }
 
@@ -257,7 +262,7 @@ fn take_effect<C: Payload, K: Copy>(
     requires bodies { 8 ≤ spare_of names.old w }
     requires ids { 104 + length (awaiters graph.old.graph task) ≤ names.old.room.ids }
     requires spare { 16 ≤ graph.old.spare }
-    requires space { HasRoom graph.old.graph task space }
+    requires space { HasRoom graph.old.graph task (length chunks) (length tasks.now) space }
     ensures effect { control_of counter.new names.new.names asks.new.asks graph.new.graph
         ≡ tidied (after_finish (control_of counter.old names.old.names asks.old.asks graph.old.graph) w task (each (λ chunk. chunk.body) chunks)
         (each (λ chunk. chunk.children) chunks) tasks.now place (task_at graph.old.graph task)) }
@@ -313,6 +318,7 @@ impl<C: Payload, K: Copy> CoreState<C, K> {
             w,
             task,
             outcome.chunks.as_slice(),
+            outcome.tasks.len(),
         )?;
         let _events = self.journal.len();
         let Outcome {

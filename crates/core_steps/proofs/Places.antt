@@ -21,11 +21,6 @@ ref_some [] i r is = absurd (let clash : None ≡ Some r = is in cc)
 ref_some (x ∷ refs) zero r is = let same : Some x ≡ Some r = is in cc
 ref_some (x ∷ refs) (suc i) r is = ref_some refs i r is
 
-pub ref_past : (refs : List Ref) (i : ℕ) → length refs ≤ i → Null ≡ ref_at refs i
-ref_past [] i past = refl
-ref_past (r ∷ refs) zero past = absurd (omega arith)
-ref_past (r ∷ refs) (suc i) past = ref_past refs i (omega arith)
-
 pub place_none : (places : List Place) (i : ℕ) → slice_get places i ≡ None → NullPlace ≡ place_at places i
 place_none [] i is = refl
 place_none (place ∷ places) zero is = absurd (let clash : Some place ≡ None = is in cc)

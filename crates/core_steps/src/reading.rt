@@ -1,9 +1,9 @@
 // What the places of an outcome name.
-ghost use Rattle.std.specs.Prelude.{◌≡◌, length, slice_get};
-ghost use Rattle.std.specs.Option.{ForSome, option_copied};
+ghost use Rattle.std.specs.Prelude.{◌≡◌, slice_get};
+ghost use Rattle.std.specs.Option.{option_copied};
 ghost use Rattle.cht_ids.specs.declared.refs.Ref.TheVariants.{Id as Held};
 ghost use Rattle.task_types.specs.Places.{places_of, place_at};
-ghost use Rattle.name_states.specs.States.{IsLive, IsLiveRef, AreLive, content_of, children_of};
+ghost use Rattle.name_states.specs.States.{IsLive, IsLiveRef, AreLive};
 ghost use Rattle.name_machine.specs.Control.{ref_at, child_named, ref_named};
 
 use cht_ids::{Id, Ref};
@@ -37,27 +37,16 @@ pub(crate) fn nth_place(places: &Places, i: u32) -> Place
     }
 }
 
-// How many children the body of a live identifier has, null ones counted.
-fn count_children<C: Payload>(names: &Refs<C>, id: Id) -> u32
-    requires { IsLive names.now.names id }
-    ensures count { result ≡ length (children_of names.now.names id) }
-    ensures arity { ForSome (content_of names.now.names id) (λ content. result ≡ C.arity content) }
-{
-    names.rules();
-    names.look(id).content().arity()
-}
-
 // Child `j` of a live identifier, counted from 0; null past the last one.
 fn nth_child<C: Payload>(names: &Refs<C>, id: Id, j: u8) -> Ref
     requires { IsLive names.now.names id }
     ensures value { result ≡ child_named names.now.names (Held id) j }
     ensures live { IsLiveRef names.now.names result }
 {
-    let j = j as u32;
-    if j >= count_children(names, id) {
-        return Ref::Null;
+    match names.nth_child(id, j as u32) {
+        None => Ref::Null,
+        Some(child) => child,
     }
-    names.child(id, j)
 }
 
 // Child `j` of what a live reference names, counted from 0; null past the last one, and for null.

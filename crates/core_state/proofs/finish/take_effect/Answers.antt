@@ -47,7 +47,6 @@ list_ready-requires g c =
     let count = few_found g.C.Payload.arity control c.args.w c.args.task c.requires.can.0 outcome c.requires.can.1
     c.add_tasks.new.names.names c.add_tasks.new.counter c.add_tasks.new.graph.graph c.add_tasks.new.numbers.items c.read_place-output.result c.args.space.inputs.items c.register_chunks.new.made.items tasked in
     let same : length c.deref-6.result.now ≡ length c.add_tasks.new.numbers.items = ap length c.deref-6.ensures.value in
-    let few = c.requires.can.1.formed.few_tasks in
     let none : length c.args.space.ready.items ≡ 0 = ap length c.requires.space.ready in
     let all = c.requires.space.all in
     omega arith
@@ -124,7 +123,6 @@ resolve-requires-clause-capacity g c κs within =
     let count = few_found g.C.Payload.arity control c.args.w c.args.task c.requires.can.0 outcome c.requires.can.1
     c.add_tasks.new.names.names c.add_tasks.new.counter c.add_tasks.new.graph.graph c.add_tasks.new.numbers.items c.read_place-output.result c.args.space.inputs.items c.register_chunks.new.made.items tasked in
     let same : length c.deref-6.result.now ≡ length c.add_tasks.new.numbers.items = ap length c.deref-6.ensures.value in
-    let few = c.requires.can.1.formed.few_tasks in
     let none : length c.args.space.ready.items ≡ 0 = ap length c.requires.space.ready in
     let all = c.requires.space.all in
     let len = c.list_ready.ensures.len in

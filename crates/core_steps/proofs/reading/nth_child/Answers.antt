@@ -1,15 +1,10 @@
-use Rattle.std.proofs.Common.{arith}
+use Rattle.std.proofs.Common.{sym}
 use Rattle.name_states.specs.States.{children_of}
-use Rattle.core_steps.proofs.Places.{ref_past, ref_some}
+use Rattle.core_steps.proofs.Places.{ref_none, ref_some}
 use Rattle.core_steps.proofs.reading.nth_child.Goals as goal
 
-pub returns-then-j-count_children-clause-value : goal.returns-then-j-count_children-clause-value
-returns-then-j-count_children-clause-value g c =
-    ref_past (children_of c.args.names.now.names c.args.id) c.args.j (let many = c.count_children.ensures.count in let past = c.if-j-count_children.true in omega arith)
+pub returns-in-None-clause-value : goal.returns-in-None-clause-value
+returns-in-None-clause-value g c = ref_none (children_of c.args.names.now.names c.args.id) c.args.j (sym c.in-None.ensures.value)
 
-pub child-requires-clause-within : goal.child-requires-clause-within
-child-requires-clause-within g c κs within x is =
-    let many = c.count_children.ensures.arity x is in let past = c.if-j-count_children.false in omega arith
-
-pub returns-clause-value : goal.returns-clause-value
-returns-clause-value g c = ref_some (children_of c.args.names.now.names c.args.id) c.args.j c.child.result c.child.ensures.value
+pub returns-in-Some-clause-value : goal.returns-in-Some-clause-value
+returns-in-Some-clause-value g c = ref_some (children_of c.args.names.now.names c.args.id) c.args.j c.in-Some.child (sym c.in-Some.ensures.value)
