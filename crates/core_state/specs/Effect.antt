@@ -1,5 +1,5 @@
 -- What the outcome of a task wants, and what it makes of the control state.
-use Rattle.std.specs.Prelude.{◌≡◌, ◌≢◌, ℕ, ◌+◌, ◌<◌, ◌≤◌, List, [], length, map as each, vec_capacity, Option, None, Some}
+use Rattle.std.specs.Prelude.{◌≡◌, ◌≢◌, ℕ, ◌<◌, ◌≤◌, List, [], length, map as each, vec_capacity, Option, None, Some}
 use Rattle.std.specs.Ordering.{nat_cmp}
 use Rattle.std.specs.FinMap as map
 use Rattle.cht_ids.specs.declared.refs.Ref.{Ref}
@@ -7,7 +7,6 @@ use Rattle.task_types.specs.declared.outcome.Place.{Place}
 use Rattle.task_types.specs.declared.outcome.Place.TheVariants.{Null, Input, Child, Chunk, Task}
 use Rattle.name_states.specs.States.{NameState}
 use Rattle.task_states.specs.States.{Unfinished, Graph, task_at}
-use Rattle.task_states.specs.Listing.{awaiters}
 use Rattle.task_graph.specs.Contents.{AreOfOneCaller, IsAskedOnce}
 use Rattle.name_machine.specs.States.{Ask}
 use Rattle.name_machine.specs.NewTasks.{number_at}
@@ -28,15 +27,13 @@ task_named numbers (Task i) = Some (number_at numbers i)
 
 module _ {K : Type 0} where
   -- What an outcome fills: the references of the task's inputs are there, and the rest is empty and has room for so many new chunks and new
-  -- tasks, and for all tasks that can become Ready.
+  -- tasks.
   pub record HasRoom (graph : Graph Ref K) (task new_chunks new_tasks : ℕ) (space : Space) : Type 0 where
     pub inputs : (ran : Unfinished Ref K) → task_at graph task ≡ Some ran → space.inputs.items ≡ each ref_known ran.inputs
     pub made : space.made.items ≡ []
     pub numbers : space.numbers.items ≡ []
-    pub ready : space.ready.items ≡ []
     pub chunks : new_chunks ≤ vec_capacity space.made
     pub tasks : new_tasks ≤ vec_capacity space.numbers
-    pub all : new_tasks + length (awaiters graph task) ≤ vec_capacity space.ready
 
   -- where the result of a task is the output of a new one, all that awaits the task may be handed to that one
   pub record CanForward (graph : Graph Ref K) (task : ℕ) (numbers : List ℕ) (i : ℕ) : Type 0 where

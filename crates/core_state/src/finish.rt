@@ -35,14 +35,24 @@ use task_graph::Tasks;
 use task_states::Slot;
 use task_types::{NewChunk, NewTask, Outcome, Payload, Place, Places};
 
-// What an outcome fills: the references of the task's inputs and of its new chunks, the numbers of its new tasks, and the tasks that
-// became Ready.
+// What an outcome fills: the references of the task's inputs and of its new chunks, and the numbers of its new tasks. The lists are kept
+// from one finish to the next, which uses their memory again.
 #[derive(Drop)]
 pub(crate) struct Space {
     pub inputs: Vec<Ref>,
     pub made: Vec<Ref>,
     pub numbers: Vec<TaskNo>,
-    pub ready: Vec<TaskNo>,
+}
+
+impl Space {
+    /// Empty lists. They take no memory.
+    pub fn new(alloc: Global) -> Space {
+        Space {
+            inputs: Vec::new(alloc),
+            made: Vec::new(alloc),
+            numbers: Vec::new(alloc),
+        }
+    }
 }
 
 // What an input names; null where it is awaited.
@@ -55,18 +65,18 @@ fn known_of(slot: Slot) -> Ref
     }
 }
 
-// What the inputs of a task name.
-fn read_inputs<K: Copy>(alloc: Global, graph: &Tasks<K>, task: TaskNo) -> Result<Vec<Ref>, Memory>
+// Writes what the inputs of a task name over a list.
+fn read_inputs<K: Copy>(graph: &Tasks<K>, task: TaskNo, inputs: &mut Vec<Ref>) -> Result<(), Memory>
     requires { IsSome (task_at graph.now.graph task) }
-    ensures { (ran : Unfinished AnyRef K) → task_at graph.now.graph task ≡ Some ran → IfOk result (λ inputs. inputs.items ≡ each ref_known ran.inputs) }
+    ensures { (ran : Unfinished AnyRef K) → task_at graph.now.graph task ≡ Some ran → OnOk result (inputs.new.items ≡ each ref_known ran.inputs) }
 {
-    let mut inputs = Vec::new(alloc);
+    inputs.clear();
     let mut place = 0;
     while let Some(slot) = graph.input(task, place) {
         inputs.push(known_of(slot))?;
         place += 1;
     }
-    Ok(inputs)
+    Ok(())
 }
 
 // The places of the children of each new chunk.
@@ -106,31 +116,23 @@ fn make_finish_room<C: Payload, K: Copy>(
     Ok(count)
 }
 
-// What an outcome with so many new chunks and new tasks fills, with room for all of it. A list of none takes no memory.
+// What an outcome with so many new chunks and new tasks fills, with room for all of it.
 fn make_space<K: Copy>(
-    alloc: Global,
     graph: &Tasks<K>,
     task: TaskNo,
-    count: u32,
     chunks: usize,
     tasks: usize,
-) -> Result<Space, Memory>
-    requires there { IsSome (task_at graph.now.graph task) }
-    requires count { count ≡ length (awaiters graph.now.graph task) }
-    requires few { count < 2 ^ 31 }
-    requires few_tasks { tasks < 2 ^ 63 }
-    ensures { IfOk result (HasRoom graph.now.graph task chunks tasks) }
+    space: &mut Space,
+) -> Result<(), Memory>
+    requires { IsSome (task_at graph.now.graph task) }
+    ensures { OnOk result (HasRoom graph.now.graph task chunks tasks space.new) }
 {
-    let inputs = read_inputs(alloc, graph, task)?;
-    let made = Vec::with_capacity(alloc, chunks)?;
-    let numbers = Vec::with_capacity(alloc, tasks)?;
-    let ready = Vec::with_capacity(alloc, tasks + count as usize)?;
-    Ok(Space {
-        inputs,
-        made,
-        numbers,
-        ready,
-    })
+    read_inputs(graph, task, &mut space.inputs)?;
+    space.made.clear();
+    space.made.reserve(chunks)?;
+    space.numbers.clear();
+    space.numbers.reserve(tasks)?;
+    Ok(())
 }
 
 // All that awaits a task gets a copy of what a reference names, and so does the ask.
@@ -204,7 +206,8 @@ fn resolve<C: Payload, K: Copy>(
     }
 }
 
-// All memory of a finish: the places for the journal, what the outcome fills, and room for it in the names and among the tasks.
+// All memory of a finish: the places for the journal, what the outcome fills, and room for it in the names and among the tasks. Answers an
+// empty list beside the places, with room for all tasks that can become Ready.
 fn prepare<C: Payload, K: Copy>(
     alloc: Global,
     names: &mut Refs<C>,
@@ -213,7 +216,8 @@ fn prepare<C: Payload, K: Copy>(
     task: TaskNo,
     chunks: &[NewChunk<C>],
     tasks: usize,
-) -> Result<(List<Places>, Space), Memory>
+    space: &mut Space,
+) -> Result<(List<Places>, Vec<TaskNo>), Memory>
     requires worker { w < workers_of names.old }
     requires there { IsSome (task_at graph.old.graph task) }
     requires few { tasks < 2 ^ 63 }
@@ -221,15 +225,18 @@ fn prepare<C: Payload, K: Copy>(
     ensures stores { length names.new.room.bodies ≡ length names.old.room.bodies }
     ensures graph { graph.new.graph ≡ graph.old.graph }
     ensures places { IfOk result (λ both. both.0 ≡ each (λ chunk. chunk.children) chunks.now) }
-    ensures space { IfOk result (λ both. HasRoom graph.old.graph task (length chunks.now) tasks both.1) }
+    ensures space { OnOk result (HasRoom graph.old.graph task (length chunks.now) tasks space.new) }
+    ensures empty { IfOk result (λ both. both.1.items ≡ []) }
+    ensures ready { IfOk result (λ both. tasks + length (awaiters graph.old.graph task) ≤ vec_capacity both.1) }
     ensures bodies { OnOk result (8 ≤ spare_of names.new w) }
     ensures ids { OnOk result (104 + length (awaiters graph.old.graph task) ≤ names.new.room.ids) }
     ensures tasks { OnOk result (16 ≤ graph.new.spare) }
 {
     let places = child_places(alloc, chunks)?;
     let count = make_finish_room(names, graph, w, task)?;
-    let space = make_space(alloc, graph, task, count, chunks.len(), tasks)?;
-    Ok((places, space))
+    make_space(graph, task, chunks.len(), tasks, space)?;
+    let ready = Vec::with_capacity(alloc, tasks + count as usize)?;
+    Ok((places, ready))
 }
 
 // Sorts tasks, each of which is there once.
@@ -252,7 +259,8 @@ fn take_effect<C: Payload, K: Copy>(
     chunks: List<NewChunk<C>>,
     tasks: &[NewTask<K>],
     place: Place,
-    space: Space,
+    space: &mut Space,
+    mut ready: Vec<TaskNo>,
 ) -> Vec<TaskNo>
     requires can { (ran : Unfinished AnyRef K) × CanFinish C.arity (control_of counter.old names.old.names asks.old.asks graph.old.graph) w task ran
         (record { chunks = chunks; tasks = tasks.now; result = place }) }
@@ -262,7 +270,9 @@ fn take_effect<C: Payload, K: Copy>(
     requires bodies { 8 ≤ spare_of names.old w }
     requires ids { 104 + length (awaiters graph.old.graph task) ≤ names.old.room.ids }
     requires spare { 16 ≤ graph.old.spare }
-    requires space { HasRoom graph.old.graph task (length chunks) (length tasks.now) space }
+    requires space { HasRoom graph.old.graph task (length chunks) (length tasks.now) space.old }
+    requires empty { ready.items ≡ [] }
+    requires capacity { length tasks.now + length (awaiters graph.old.graph task) ≤ vec_capacity ready }
     ensures effect { control_of counter.new names.new.names asks.new.asks graph.new.graph
         ≡ tidied (after_finish (control_of counter.old names.old.names asks.old.asks graph.old.graph) w task (each (λ chunk. chunk.body) chunks)
         (each (λ chunk. chunk.children) chunks) tasks.now place (task_at graph.old.graph task)) }
@@ -270,30 +280,39 @@ fn take_effect<C: Payload, K: Copy>(
     ensures stores { length names.new.room.bodies ≡ length names.old.room.bodies }
     ensures callers { length asks.new.rooms ≡ length asks.old.rooms }
 {
-    let Space {
-        inputs,
-        mut made,
-        mut numbers,
-        mut ready,
-    } = space;
     let caller = graph.caller(task);
-    register_chunks(names, counter, w, task, &inputs, chunks, &mut made);
-    let output = read_place(names, &inputs, &made, place);
+    register_chunks(
+        names,
+        counter,
+        w,
+        task,
+        &space.inputs,
+        chunks,
+        &mut space.made,
+    );
+    let output = read_place(names, &space.inputs, &space.made, place);
     add_tasks(
         names,
         counter,
         graph,
         caller,
-        &inputs,
-        &made,
+        &space.inputs,
+        &space.made,
         tasks,
-        &mut numbers,
+        &mut space.numbers,
     );
-    list_ready(graph, &numbers, &mut ready);
+    list_ready(graph, &space.numbers, &mut ready);
     resolve(
-        names, graph, asks, task, place, output, &numbers, &mut ready,
+        names,
+        graph,
+        asks,
+        task,
+        place,
+        output,
+        &space.numbers,
+        &mut ready,
     );
-    end_task(names, graph, task, &inputs, &made);
+    end_task(names, graph, task, &space.inputs, &space.made);
     sort_ready(&mut ready);
     ready
 }
@@ -311,7 +330,7 @@ impl<C: Payload, K: Copy> CoreState<C, K> {
         ensures unchanged { OnErr result (self.new ≡ self.old) }
     {
         let task = self.running[w as usize].unwrap();
-        let (places, space) = prepare(
+        let (places, ready) = prepare(
             self.alloc,
             &mut self.names,
             &mut self.graph,
@@ -319,6 +338,7 @@ impl<C: Payload, K: Copy> CoreState<C, K> {
             task,
             outcome.chunks.as_slice(),
             outcome.tasks.len(),
+            &mut self.space,
         )?;
         let _events = self.journal.len();
         let Outcome {
@@ -336,7 +356,8 @@ impl<C: Payload, K: Copy> CoreState<C, K> {
             chunks,
             tasks.as_slice(),
             result,
-            space,
+            &mut self.space,
+            ready,
         );
         self.running[w as usize] = None;
         self.owed -= 1;

@@ -13,6 +13,7 @@ ghost use Rattle.core_steps.specs.Conditions.{HangsTogether, RunsTask};
 ghost use Rattle.core_state.specs.Lists.{AreIdle};
 
 use crate::asked::Asks;
+use crate::finish::Space;
 use cht_history::Journal;
 use cht_ids::{Counter, Memory, Ref, TaskNo};
 use chunk_refs::Refs;
@@ -39,6 +40,8 @@ pub struct CoreState<C: Payload, K: Copy> {
     pub(crate) owed: u64,
     // what each worker runs
     pub(crate) running: Vec<Option<TaskNo>>,
+    // what the next finish fills
+    pub(crate) space: Space,
     pub(crate) callers: u32,
 }
 
@@ -117,6 +120,7 @@ impl<C: Payload, K: Copy> CoreState<C, K> {
             journal: Journal::new(alloc),
             owed: 0,
             running,
+            space: Space::new(alloc),
             callers,
         })
     }

@@ -37,7 +37,7 @@ list_ready-requires g c =
     let control = control_of c.args.counter.now c.args.names.now.names c.args.asks.now.asks c.args.graph.now.graph in
     let tasked =
     tasked_as g.C.Payload.arity control c.args.w c.args.task c.requires.can.0 outcome c.requires.can.1
-    c.args.space.inputs.items c.register_chunks.new.made.items c.deref.result.now c.deref-2.result.now c.deref-3.result.now c.deref-4.result.now c.deref-5.result.now
+    c.args.space.now.inputs.items c.register_chunks.new.made.items c.deref.result.now c.deref-2.result.now c.deref-3.result.now c.deref-4.result.now c.deref-5.result.now
     c.register_chunks.new.names.names c.register_chunks.new.counter c.read_place-output.result
     c.add_tasks.new.names.names c.add_tasks.new.counter c.add_tasks.new.graph.graph c.add_tasks.new.numbers.items c.caller-caller.result
     c.deref.ensures.value c.deref-2.ensures.value c.deref-3.ensures.value c.deref-4.ensures.value c.deref-5.ensures.value
@@ -45,10 +45,10 @@ list_ready-requires g c =
     c.register_chunks.ensures.names c.register_chunks.ensures.drawn c.register_chunks.ensures.made c.read_place-output.ensures.value
     c.add_tasks.ensures.names c.add_tasks.ensures.drawn c.add_tasks.ensures.graph c.add_tasks.ensures.numbers c.caller-caller.ensures in
     let count = few_found g.C.Payload.arity control c.args.w c.args.task c.requires.can.0 outcome c.requires.can.1
-    c.add_tasks.new.names.names c.add_tasks.new.counter c.add_tasks.new.graph.graph c.add_tasks.new.numbers.items c.read_place-output.result c.args.space.inputs.items c.register_chunks.new.made.items tasked in
+    c.add_tasks.new.names.names c.add_tasks.new.counter c.add_tasks.new.graph.graph c.add_tasks.new.numbers.items c.read_place-output.result c.args.space.now.inputs.items c.register_chunks.new.made.items tasked in
     let same : length c.deref-6.result.now ≡ length c.add_tasks.new.numbers.items = ap length c.deref-6.ensures.value in
-    let none : length c.args.space.ready.items ≡ 0 = ap length c.requires.space.ready in
-    let all = c.requires.space.all in
+    let none : length c.args.ready.items ≡ 0 = ap length c.requires.empty in
+    let all = c.requires.capacity in
     omega arith
 
 pub resolve-requires-clause-live : goal.resolve-requires-clause-live
@@ -57,7 +57,7 @@ resolve-requires-clause-live g c κs within =
     let control = control_of c.args.counter.now c.args.names.now.names c.args.asks.now.asks c.args.graph.now.graph in
     let tasked =
     tasked_as g.C.Payload.arity control c.args.w c.args.task c.requires.can.0 outcome c.requires.can.1
-    c.args.space.inputs.items c.register_chunks.new.made.items c.deref.result.now c.deref-2.result.now c.deref-3.result.now c.deref-4.result.now c.deref-5.result.now
+    c.args.space.now.inputs.items c.register_chunks.new.made.items c.deref.result.now c.deref-2.result.now c.deref-3.result.now c.deref-4.result.now c.deref-5.result.now
     c.register_chunks.new.names.names c.register_chunks.new.counter c.read_place-output.result
     c.add_tasks.new.names.names c.add_tasks.new.counter c.add_tasks.new.graph.graph c.add_tasks.new.numbers.items c.caller-caller.result
     c.deref.ensures.value c.deref-2.ensures.value c.deref-3.ensures.value c.deref-4.ensures.value c.deref-5.ensures.value
@@ -65,7 +65,7 @@ resolve-requires-clause-live g c κs within =
     c.register_chunks.ensures.names c.register_chunks.ensures.drawn c.register_chunks.ensures.made c.read_place-output.ensures.value
     c.add_tasks.ensures.names c.add_tasks.ensures.drawn c.add_tasks.ensures.graph c.add_tasks.ensures.numbers c.caller-caller.ensures in
     output_live g.C.Payload.arity control c.args.w c.args.task c.requires.can.0 outcome c.requires.can.1
-    c.add_tasks.new.names.names c.add_tasks.new.counter c.add_tasks.new.graph.graph c.add_tasks.new.numbers.items c.read_place-output.result c.args.space.inputs.items c.register_chunks.new.made.items tasked
+    c.add_tasks.new.names.names c.add_tasks.new.counter c.add_tasks.new.graph.graph c.add_tasks.new.numbers.items c.read_place-output.result c.args.space.now.inputs.items c.register_chunks.new.made.items tasked
 
 pub resolve-requires-clause-apart : goal.resolve-requires-clause-apart
 resolve-requires-clause-apart g c κs within =
@@ -73,7 +73,7 @@ resolve-requires-clause-apart g c κs within =
     let control = control_of c.args.counter.now c.args.names.now.names c.args.asks.now.asks c.args.graph.now.graph in
     let tasked =
     tasked_as g.C.Payload.arity control c.args.w c.args.task c.requires.can.0 outcome c.requires.can.1
-    c.args.space.inputs.items c.register_chunks.new.made.items c.deref.result.now c.deref-2.result.now c.deref-3.result.now c.deref-4.result.now c.deref-5.result.now
+    c.args.space.now.inputs.items c.register_chunks.new.made.items c.deref.result.now c.deref-2.result.now c.deref-3.result.now c.deref-4.result.now c.deref-5.result.now
     c.register_chunks.new.names.names c.register_chunks.new.counter c.read_place-output.result
     c.add_tasks.new.names.names c.add_tasks.new.counter c.add_tasks.new.graph.graph c.add_tasks.new.numbers.items c.caller-caller.result
     c.deref.ensures.value c.deref-2.ensures.value c.deref-3.ensures.value c.deref-4.ensures.value c.deref-5.ensures.value
@@ -81,7 +81,7 @@ resolve-requires-clause-apart g c κs within =
     c.register_chunks.ensures.names c.register_chunks.ensures.drawn c.register_chunks.ensures.made c.read_place-output.ensures.value
     c.add_tasks.ensures.names c.add_tasks.ensures.drawn c.add_tasks.ensures.graph c.add_tasks.ensures.numbers c.caller-caller.ensures in
     set_apart g.C.Payload.arity control c.args.w c.args.task c.requires.can.0 outcome c.requires.can.1
-    c.add_tasks.new.names.names c.add_tasks.new.counter c.add_tasks.new.graph.graph c.add_tasks.new.numbers.items c.read_place-output.result c.args.space.inputs.items c.register_chunks.new.made.items tasked
+    c.add_tasks.new.names.names c.add_tasks.new.counter c.add_tasks.new.graph.graph c.add_tasks.new.numbers.items c.read_place-output.result c.args.space.now.inputs.items c.register_chunks.new.made.items tasked
 
 pub resolve-requires-clause-room : goal.resolve-requires-clause-room
 resolve-requires-clause-room g c κs within =
@@ -89,7 +89,7 @@ resolve-requires-clause-room g c κs within =
     let control = control_of c.args.counter.now c.args.names.now.names c.args.asks.now.asks c.args.graph.now.graph in
     let tasked =
     tasked_as g.C.Payload.arity control c.args.w c.args.task c.requires.can.0 outcome c.requires.can.1
-    c.args.space.inputs.items c.register_chunks.new.made.items c.deref.result.now c.deref-2.result.now c.deref-3.result.now c.deref-4.result.now c.deref-5.result.now
+    c.args.space.now.inputs.items c.register_chunks.new.made.items c.deref.result.now c.deref-2.result.now c.deref-3.result.now c.deref-4.result.now c.deref-5.result.now
     c.register_chunks.new.names.names c.register_chunks.new.counter c.read_place-output.result
     c.add_tasks.new.names.names c.add_tasks.new.counter c.add_tasks.new.graph.graph c.add_tasks.new.numbers.items c.caller-caller.result
     c.deref.ensures.value c.deref-2.ensures.value c.deref-3.ensures.value c.deref-4.ensures.value c.deref-5.ensures.value
@@ -97,7 +97,7 @@ resolve-requires-clause-room g c κs within =
     c.register_chunks.ensures.names c.register_chunks.ensures.drawn c.register_chunks.ensures.made c.read_place-output.ensures.value
     c.add_tasks.ensures.names c.add_tasks.ensures.drawn c.add_tasks.ensures.graph c.add_tasks.ensures.numbers c.caller-caller.ensures in
     let fewer = few_await g.C.Payload.arity control c.args.w c.args.task c.requires.can.0 outcome c.requires.can.1
-    c.add_tasks.new.names.names c.add_tasks.new.counter c.add_tasks.new.graph.graph c.add_tasks.new.numbers.items c.read_place-output.result c.args.space.inputs.items c.register_chunks.new.made.items tasked in
+    c.add_tasks.new.names.names c.add_tasks.new.counter c.add_tasks.new.graph.graph c.add_tasks.new.numbers.items c.read_place-output.result c.args.space.now.inputs.items c.register_chunks.new.made.items tasked in
     let tasks = c.requires.can.1.formed.few_tasks in
     let chunks = c.requires.can.1.formed.few_chunks in
     let first = c.register_chunks.ensures.ids in
@@ -111,7 +111,7 @@ resolve-requires-clause-capacity g c κs within =
     let control = control_of c.args.counter.now c.args.names.now.names c.args.asks.now.asks c.args.graph.now.graph in
     let tasked =
     tasked_as g.C.Payload.arity control c.args.w c.args.task c.requires.can.0 outcome c.requires.can.1
-    c.args.space.inputs.items c.register_chunks.new.made.items c.deref.result.now c.deref-2.result.now c.deref-3.result.now c.deref-4.result.now c.deref-5.result.now
+    c.args.space.now.inputs.items c.register_chunks.new.made.items c.deref.result.now c.deref-2.result.now c.deref-3.result.now c.deref-4.result.now c.deref-5.result.now
     c.register_chunks.new.names.names c.register_chunks.new.counter c.read_place-output.result
     c.add_tasks.new.names.names c.add_tasks.new.counter c.add_tasks.new.graph.graph c.add_tasks.new.numbers.items c.caller-caller.result
     c.deref.ensures.value c.deref-2.ensures.value c.deref-3.ensures.value c.deref-4.ensures.value c.deref-5.ensures.value
@@ -119,12 +119,12 @@ resolve-requires-clause-capacity g c κs within =
     c.register_chunks.ensures.names c.register_chunks.ensures.drawn c.register_chunks.ensures.made c.read_place-output.ensures.value
     c.add_tasks.ensures.names c.add_tasks.ensures.drawn c.add_tasks.ensures.graph c.add_tasks.ensures.numbers c.caller-caller.ensures in
     let fewer = few_await g.C.Payload.arity control c.args.w c.args.task c.requires.can.0 outcome c.requires.can.1
-    c.add_tasks.new.names.names c.add_tasks.new.counter c.add_tasks.new.graph.graph c.add_tasks.new.numbers.items c.read_place-output.result c.args.space.inputs.items c.register_chunks.new.made.items tasked in
+    c.add_tasks.new.names.names c.add_tasks.new.counter c.add_tasks.new.graph.graph c.add_tasks.new.numbers.items c.read_place-output.result c.args.space.now.inputs.items c.register_chunks.new.made.items tasked in
     let count = few_found g.C.Payload.arity control c.args.w c.args.task c.requires.can.0 outcome c.requires.can.1
-    c.add_tasks.new.names.names c.add_tasks.new.counter c.add_tasks.new.graph.graph c.add_tasks.new.numbers.items c.read_place-output.result c.args.space.inputs.items c.register_chunks.new.made.items tasked in
+    c.add_tasks.new.names.names c.add_tasks.new.counter c.add_tasks.new.graph.graph c.add_tasks.new.numbers.items c.read_place-output.result c.args.space.now.inputs.items c.register_chunks.new.made.items tasked in
     let same : length c.deref-6.result.now ≡ length c.add_tasks.new.numbers.items = ap length c.deref-6.ensures.value in
-    let none : length c.args.space.ready.items ≡ 0 = ap length c.requires.space.ready in
-    let all = c.requires.space.all in
+    let none : length c.args.ready.items ≡ 0 = ap length c.requires.empty in
+    let all = c.requires.capacity in
     let len = c.list_ready.ensures.len in
     let capacity = c.list_ready.ensures.capacity in
     omega arith
@@ -135,7 +135,7 @@ resolve-requires-clause-forward g c κs within =
     let control = control_of c.args.counter.now c.args.names.now.names c.args.asks.now.asks c.args.graph.now.graph in
     let tasked =
     tasked_as g.C.Payload.arity control c.args.w c.args.task c.requires.can.0 outcome c.requires.can.1
-    c.args.space.inputs.items c.register_chunks.new.made.items c.deref.result.now c.deref-2.result.now c.deref-3.result.now c.deref-4.result.now c.deref-5.result.now
+    c.args.space.now.inputs.items c.register_chunks.new.made.items c.deref.result.now c.deref-2.result.now c.deref-3.result.now c.deref-4.result.now c.deref-5.result.now
     c.register_chunks.new.names.names c.register_chunks.new.counter c.read_place-output.result
     c.add_tasks.new.names.names c.add_tasks.new.counter c.add_tasks.new.graph.graph c.deref-7.result.now c.caller-caller.result
     c.deref.ensures.value c.deref-2.ensures.value c.deref-3.ensures.value c.deref-4.ensures.value c.deref-5.ensures.value
@@ -143,7 +143,7 @@ resolve-requires-clause-forward g c κs within =
     c.register_chunks.ensures.names c.register_chunks.ensures.drawn c.register_chunks.ensures.made c.read_place-output.ensures.value
     c.add_tasks.ensures.names c.add_tasks.ensures.drawn c.add_tasks.ensures.graph (c.deref-7.ensures.value ∙ c.add_tasks.ensures.numbers) c.caller-caller.ensures in
     can_forward g.C.Payload.arity control c.args.w c.args.task c.requires.can.0 outcome c.requires.can.1
-    c.add_tasks.new.names.names c.add_tasks.new.counter c.add_tasks.new.graph.graph c.deref-7.result.now c.read_place-output.result c.args.space.inputs.items c.register_chunks.new.made.items tasked
+    c.add_tasks.new.names.names c.add_tasks.new.counter c.add_tasks.new.graph.graph c.deref-7.result.now c.read_place-output.result c.args.space.now.inputs.items c.register_chunks.new.made.items tasked
 
 -- what may end once the output is handed on
 ends : (g : _) (c : goal.After-deref-9 g) → MayEnd c.resolve.new.names.names c.resolve.new.graph.graph c.args.task (c.deref-8.result.now ++ c.deref-9.result.now)
@@ -152,7 +152,7 @@ ends g c =
     let control = control_of c.args.counter.now c.args.names.now.names c.args.asks.now.asks c.args.graph.now.graph in
     let tasked =
     tasked_as g.C.Payload.arity control c.args.w c.args.task c.requires.can.0 outcome c.requires.can.1
-    c.args.space.inputs.items c.register_chunks.new.made.items c.deref.result.now c.deref-2.result.now c.deref-3.result.now c.deref-4.result.now c.deref-5.result.now
+    c.args.space.now.inputs.items c.register_chunks.new.made.items c.deref.result.now c.deref-2.result.now c.deref-3.result.now c.deref-4.result.now c.deref-5.result.now
     c.register_chunks.new.names.names c.register_chunks.new.counter c.read_place-output.result
     c.add_tasks.new.names.names c.add_tasks.new.counter c.add_tasks.new.graph.graph c.deref-7.result.now c.caller-caller.result
     c.deref.ensures.value c.deref-2.ensures.value c.deref-3.ensures.value c.deref-4.ensures.value c.deref-5.ensures.value
@@ -161,7 +161,7 @@ ends g c =
     c.add_tasks.ensures.names c.add_tasks.ensures.drawn c.add_tasks.ensures.graph (c.deref-7.ensures.value ∙ c.add_tasks.ensures.numbers) c.caller-caller.ensures in
     subst (MayEnd c.resolve.new.names.names c.resolve.new.graph.graph c.args.task) (sym (λ i. c.deref-8.ensures.value i ++ c.deref-9.ensures.value i))
     (may_end g.C.Payload.arity control c.args.w c.args.task c.requires.can.0 outcome c.requires.can.1
-    c.add_tasks.new.names.names c.add_tasks.new.counter c.add_tasks.new.graph.graph c.deref-7.result.now c.read_place-output.result c.args.space.inputs.items c.register_chunks.new.made.items tasked
+    c.add_tasks.new.names.names c.add_tasks.new.counter c.add_tasks.new.graph.graph c.deref-7.result.now c.read_place-output.result c.args.space.now.inputs.items c.register_chunks.new.made.items tasked
     c.resolve.new.names.names c.resolve.new.asks.asks c.resolve.new.graph.graph c.resolve.ensures.resolved)
 
 pub end_task-requires-clause-held : goal.end_task-requires-clause-held
@@ -182,7 +182,7 @@ sort_ready-requires g c =
     let control = control_of c.args.counter.now c.args.names.now.names c.args.asks.now.asks c.args.graph.now.graph in
     let tasked =
     tasked_as g.C.Payload.arity control c.args.w c.args.task c.requires.can.0 outcome c.requires.can.1
-    c.args.space.inputs.items c.register_chunks.new.made.items c.deref.result.now c.deref-2.result.now c.deref-3.result.now c.deref-4.result.now c.deref-5.result.now
+    c.args.space.now.inputs.items c.register_chunks.new.made.items c.deref.result.now c.deref-2.result.now c.deref-3.result.now c.deref-4.result.now c.deref-5.result.now
     c.register_chunks.new.names.names c.register_chunks.new.counter c.read_place-output.result
     c.add_tasks.new.names.names c.add_tasks.new.counter c.add_tasks.new.graph.graph c.deref-7.result.now c.caller-caller.result
     c.deref.ensures.value c.deref-2.ensures.value c.deref-3.ensures.value c.deref-4.ensures.value c.deref-5.ensures.value
@@ -190,14 +190,14 @@ sort_ready-requires g c =
     c.register_chunks.ensures.names c.register_chunks.ensures.drawn c.register_chunks.ensures.made c.read_place-output.ensures.value
     c.add_tasks.ensures.names c.add_tasks.ensures.drawn c.add_tasks.ensures.graph (c.deref-7.ensures.value ∙ c.add_tasks.ensures.numbers) c.caller-caller.ensures in
     let listed =
-    c.list_ready.ensures.ready ∙ (λ i. c.requires.space.ready i ++ filter (is_ready_in c.add_tasks.new.graph.graph) ((c.deref-6.ensures.value ∙ sym c.deref-7.ensures.value) i)) in
+    c.list_ready.ensures.ready ∙ (λ i. c.requires.empty i ++ filter (is_ready_in c.add_tasks.new.graph.graph) ((c.deref-6.ensures.value ∙ sym c.deref-7.ensures.value) i)) in
     c.resolve.ensures.distinct
     (ready_distinct g.C.Payload.arity control c.args.w c.args.task c.requires.can.0 outcome c.requires.can.1
-    c.add_tasks.new.names.names c.add_tasks.new.counter c.add_tasks.new.graph.graph c.deref-7.result.now c.read_place-output.result c.args.space.inputs.items c.register_chunks.new.made.items tasked
+    c.add_tasks.new.names.names c.add_tasks.new.counter c.add_tasks.new.graph.graph c.deref-7.result.now c.read_place-output.result c.args.space.now.inputs.items c.register_chunks.new.made.items tasked
     c.resolve.new.names.names c.resolve.new.asks.asks c.resolve.new.graph.graph c.resolve.ensures.resolved
     c.list_ready.new.ready.items c.resolve.new.ready.items listed c.resolve.ensures.ready)
     (none_waits g.C.Payload.arity control c.args.w c.args.task c.requires.can.0 outcome c.requires.can.1
-    c.add_tasks.new.names.names c.add_tasks.new.counter c.add_tasks.new.graph.graph c.deref-7.result.now c.read_place-output.result c.args.space.inputs.items c.register_chunks.new.made.items tasked
+    c.add_tasks.new.names.names c.add_tasks.new.counter c.add_tasks.new.graph.graph c.deref-7.result.now c.read_place-output.result c.args.space.now.inputs.items c.register_chunks.new.made.items tasked
     c.resolve.new.names.names c.resolve.new.asks.asks c.resolve.new.graph.graph c.resolve.ensures.resolved
     c.list_ready.new.ready.items c.resolve.new.ready.items listed c.resolve.ensures.ready)
 
@@ -207,7 +207,7 @@ returns-clause-effect g c =
     let control = control_of c.args.counter.now c.args.names.now.names c.args.asks.now.asks c.args.graph.now.graph in
     let tasked =
     tasked_as g.C.Payload.arity control c.args.w c.args.task c.requires.can.0 outcome c.requires.can.1
-    c.args.space.inputs.items c.register_chunks.new.made.items c.deref.result.now c.deref-2.result.now c.deref-3.result.now c.deref-4.result.now c.deref-5.result.now
+    c.args.space.now.inputs.items c.register_chunks.new.made.items c.deref.result.now c.deref-2.result.now c.deref-3.result.now c.deref-4.result.now c.deref-5.result.now
     c.register_chunks.new.names.names c.register_chunks.new.counter c.read_place-output.result
     c.add_tasks.new.names.names c.add_tasks.new.counter c.add_tasks.new.graph.graph c.deref-7.result.now c.caller-caller.result
     c.deref.ensures.value c.deref-2.ensures.value c.deref-3.ensures.value c.deref-4.ensures.value c.deref-5.ensures.value
@@ -215,7 +215,7 @@ returns-clause-effect g c =
     c.register_chunks.ensures.names c.register_chunks.ensures.drawn c.register_chunks.ensures.made c.read_place-output.ensures.value
     c.add_tasks.ensures.names c.add_tasks.ensures.drawn c.add_tasks.ensures.graph (c.deref-7.ensures.value ∙ c.add_tasks.ensures.numbers) c.caller-caller.ensures in
     effect_is g.C.Payload.arity control c.args.w c.args.task c.requires.can.0 outcome c.requires.can.1
-    c.add_tasks.new.names.names c.add_tasks.new.counter c.add_tasks.new.graph.graph c.deref-7.result.now c.read_place-output.result c.args.space.inputs.items c.register_chunks.new.made.items tasked
+    c.add_tasks.new.names.names c.add_tasks.new.counter c.add_tasks.new.graph.graph c.deref-7.result.now c.read_place-output.result c.args.space.now.inputs.items c.register_chunks.new.made.items tasked
     c.resolve.new.names.names c.resolve.new.asks.asks c.resolve.new.graph.graph c.resolve.ensures.resolved
     c.end_task.new.names.names c.end_task.new.graph.graph c.end_task.ensures.names c.end_task.ensures.graph
 
@@ -225,7 +225,7 @@ returns-clause-ready g c =
     let control = control_of c.args.counter.now c.args.names.now.names c.args.asks.now.asks c.args.graph.now.graph in
     let tasked =
     tasked_as g.C.Payload.arity control c.args.w c.args.task c.requires.can.0 outcome c.requires.can.1
-    c.args.space.inputs.items c.register_chunks.new.made.items c.deref.result.now c.deref-2.result.now c.deref-3.result.now c.deref-4.result.now c.deref-5.result.now
+    c.args.space.now.inputs.items c.register_chunks.new.made.items c.deref.result.now c.deref-2.result.now c.deref-3.result.now c.deref-4.result.now c.deref-5.result.now
     c.register_chunks.new.names.names c.register_chunks.new.counter c.read_place-output.result
     c.add_tasks.new.names.names c.add_tasks.new.counter c.add_tasks.new.graph.graph c.deref-7.result.now c.caller-caller.result
     c.deref.ensures.value c.deref-2.ensures.value c.deref-3.ensures.value c.deref-4.ensures.value c.deref-5.ensures.value
@@ -233,9 +233,9 @@ returns-clause-ready g c =
     c.register_chunks.ensures.names c.register_chunks.ensures.drawn c.register_chunks.ensures.made c.read_place-output.ensures.value
     c.add_tasks.ensures.names c.add_tasks.ensures.drawn c.add_tasks.ensures.graph (c.deref-7.ensures.value ∙ c.add_tasks.ensures.numbers) c.caller-caller.ensures in
     let listed =
-    c.list_ready.ensures.ready ∙ (λ i. c.requires.space.ready i ++ filter (is_ready_in c.add_tasks.new.graph.graph) ((c.deref-6.ensures.value ∙ sym c.deref-7.ensures.value) i)) in
+    c.list_ready.ensures.ready ∙ (λ i. c.requires.empty i ++ filter (is_ready_in c.add_tasks.new.graph.graph) ((c.deref-6.ensures.value ∙ sym c.deref-7.ensures.value) i)) in
     newly_ready g.C.Payload.arity control c.args.w c.args.task c.requires.can.0 outcome c.requires.can.1
-    c.add_tasks.new.names.names c.add_tasks.new.counter c.add_tasks.new.graph.graph c.deref-7.result.now c.read_place-output.result c.args.space.inputs.items c.register_chunks.new.made.items tasked
+    c.add_tasks.new.names.names c.add_tasks.new.counter c.add_tasks.new.graph.graph c.deref-7.result.now c.read_place-output.result c.args.space.now.inputs.items c.register_chunks.new.made.items tasked
     c.resolve.new.names.names c.resolve.new.asks.asks c.resolve.new.graph.graph c.resolve.ensures.resolved
     c.list_ready.new.ready.items c.resolve.new.ready.items listed c.resolve.ensures.ready
     c.end_task.new.graph.graph c.sort_ready.new.ready.items c.end_task.ensures.graph c.sort_ready.ensures.rise c.sort_ready.ensures.same

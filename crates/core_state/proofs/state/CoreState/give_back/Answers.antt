@@ -1,12 +1,22 @@
-use Rattle.std.proofs.Common.{◌-◌, ◌<◌, sym, subst, refl, arith, length, slice_set, None}
+use Rattle.std.proofs.Common.{◌-◌, ◌<◌, sym, ap, subst, refl, arith, length, is_some, slice_set, None}
 use Rattle.std.proofs.Math.ListN.{length-set}
 use Rattle.cht_history.specs.declared.event.Event.TheVariants.{GiveBack}
 use Rattle.task_states.specs.States.{task_at}
 use Rattle.task_states.specs.Steps.{given_back}
 use Rattle.core_state.specs.Contents.{Contents}
-use Rattle.core_steps.specs.Conditions.{HangsTogether}
-use Rattle.core_state.proofs.Working.{ended_kept, owed_for_run, running_is, ran_is, run_test, still_is}
+use Rattle.core_steps.specs.Conditions.{HangsTogether, RunsTask}
+use Rattle.core_state.proofs.Working.{ended_kept, owed_for_run, running_is, ran_is, run_is, run_test, still_is}
+use Rattle.core_state.proofs.Finished.{run_here}
 use Rattle.core_state.proofs.state.CoreState.give_back.Goals as goal
+
+pub unwrap-task-requires : goal.unwrap-task-requires
+unwrap-task-requires g c =
+    let state = c.self.inside in
+    let within : c.args.w < length state.running.items = rw (← c.self.view_is) at c.requires.worker in
+    let runs = subst (λ (v : Contents g.row.C.Denot g.row.K.Denot). RunsTask v.control c.args.w c.requires.runs.0) (sym c.self.view_is) c.requires.runs.1 in
+    let there = run_is c.args.w (task_at state.graph.graph c.requires.runs.0) runs in
+    ap is_some (run_here state.running.items c.args.w c.requires.runs.0 c.index.result.now within c.index.ensures
+    (c.self.invariant.run.runner c.requires.runs.0 c.args.w there.0 there.1 there.2))
 
 pub give_back-requires : goal.give_back-requires
 give_back-requires g c =
