@@ -1,4 +1,4 @@
-// The calls of a core with one caller, by what the caller sees.
+// The calls of a core with one caller, by what the caller sees. Caller and worker have the number 0.
 ghost use Rattle.std.specs.Prelude.{◌≡◌, ℕ, ◌≤◌, [], length, IfOk, OnErr};
 ghost use Rattle.std.specs.FinMap as map;
 ghost use Rattle.cht_ids.specs.declared.refs.Ref.TheVariants.{Id as Held};
@@ -16,7 +16,8 @@ use cht_ids::{Id, Memory, Ref, TaskNo};
 use std::alloc::Global;
 use task_types::{Body, Library, Shared};
 
-// A core with one caller and one worker.
+/// A core with one caller and one worker, in which nothing is held, asked or done. `cache` is the most bodies that the worker will
+/// keep of those that others own.
 pub fn new<L: Library>(alloc: Global, cache: u32) -> Result<Core<L>, Memory>
     requires { cache ≤ 65536 }
     ensures rest { IfOk result (IsAtRest L.meanings) }
@@ -25,7 +26,8 @@ pub fn new<L: Library>(alloc: Global, cache: u32) -> Result<Core<L>, Memory>
     Core::new(alloc, 1, 1, cache)
 }
 
-// The caller registers a content.
+/// The caller registers a content over what these references name, one for each child. Answers the new identifier. After `Memory` the
+/// body is dropped.
 pub fn register<L: Library>(
     core: &mut Core<L>,
     body: Body<L::Chunk>,
@@ -41,7 +43,7 @@ pub fn register<L: Library>(
     core.register(0, body, children)
 }
 
-// The caller copies an identifier.
+/// One more identifier of what a reference names, null of null. After `Memory` the caller holds what it held.
 pub fn copy<L: Library>(core: &mut Core<L>, r: Ref) -> Result<Ref, Memory>
     requires rest { IsAtRest L.meanings core.old }
     requires held { MayMention (seen_of L.meanings core.old) r }
@@ -58,7 +60,7 @@ pub fn copy<L: Library>(core: &mut Core<L>, r: Ref) -> Result<Ref, Memory>
     }
 }
 
-// The caller deletes an identifier.
+/// The caller deletes an identifier, nothing where the reference is null. It takes no memory.
 pub fn delete<L: Library>(core: &mut Core<L>, r: Ref)
     requires rest { IsAtRest L.meanings core.old }
     requires held { MayMention (seen_of L.meanings core.old) r }
@@ -72,7 +74,8 @@ pub fn delete<L: Library>(core: &mut Core<L>, r: Ref)
     }
 }
 
-// The content at a path below what an identifier names.
+/// The content of what is reached from an identifier by a path of child numbers, each counted from 0; `None` exactly where nothing is
+/// there.
 pub fn look<L: Library>(
     core: &Core<L>,
     id: Id,
@@ -85,7 +88,9 @@ pub fn look<L: Library>(
     core.look(0, id, path)
 }
 
-// The caller asks for a task, waits for it and collects its output.
+/// The caller asks for a task of this kind on what these references name; the worker runs what there is to run, and the caller
+/// collects the output: null exactly where the goal is nothing. After `Memory` the caller's identifiers are as before, and no task
+/// is left.
 pub fn ask<L: Library>(
     alloc: Global,
     core: &mut Core<L>,
@@ -117,7 +122,7 @@ fn enter<L: Library>(core: &mut Core<L>, kind: L::Kind, inputs: &[Ref]) -> Resul
     core.ask(0, kind, inputs)
 }
 
-// What is left of a core whose caller holds nothing.
+/// The events of a core whose caller holds nothing, in a record that can be replayed. It takes no memory.
 pub fn close<L: Library>(core: Core<L>) -> Record<L>
     requires rest { IsAtRest L.meanings core }
     requires empty { (seen_of L.meanings core).names ≡ map.empty }
