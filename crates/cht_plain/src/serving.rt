@@ -14,7 +14,7 @@ use cht_ids::{List, Memory, Ref, TaskNo};
 use std::alloc::Global;
 use task_types::{Library, Outcome};
 
-// Runs tasks until the one that was asked is done, and collects its output. For want of memory the ask is given up.
+/// Runs tasks until the one that was asked is done, and collects its output. For want of memory the ask is given up.
 pub fn serve<L: Library>(alloc: Global, core: &mut Core<L>, task: TaskNo) -> Result<Ref, Memory>
     requires waiting { IsWaiting L.meanings core.old }
     requires awaits { (goal : Tree L.Chunk) × AwaitsOne (seen_of L.meanings core.old) task goal }

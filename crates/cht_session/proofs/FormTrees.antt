@@ -9,7 +9,7 @@ use Rattle.task_types.specs.Tree.{Tree, Nothing, Root, is_there}
 use Rattle.chunk_codec.specs.Spots.{side_of}
 use Rattle.quad_matrix.specs.declared.chunk.MatChunk.{MatChunk}
 use Rattle.quad_matrix.specs.Blocks.{block_of, canonical, canonical_symmetric}
-use Rattle.quad_matrix.proofs.ForOthers.{block_of_canonical, canonical_of_block, is_there_canonical, is_there_symmetric, nothing_is_canonical, nothing_is_symmetric, peak_of_root, peak_of_symmetric_root, symmetric_by_entries, peak-zeros}
+use Rattle.quad_matrix.proofs.ForOthers.{is_there_canonical, is_there_symmetric, nothing_is_canonical, nothing_is_symmetric, peak_of_root, peak_of_symmetric_root, symmetric_by_entries, peak-zeros}
 use Rattle.mm_text.specs.declared.market.Form.{Form}
 use Rattle.mm_text.specs.declared.market.Form.TheVariants.{General, Symmetric}
 use Rattle.tree_entries.specs.BlockTrees.{IsCanonicalIn}
@@ -80,23 +80,6 @@ module _ (b h : ℕ) where
   empty_sound form m whole rows columns formed flat =
       let is : IsTreeIn form b h m Nothing = record { canonical = nothing_in form; block = completed-flat (side_of b h) m whole flat } in
       (sound_in form m Nothing whole rows columns formed is, sym (tree_is form m Nothing is))
-
-  -- ---- Both forms
-
-  -- a matrix in either form has a tree in the general one
-  pub sound_general : (form : Form) (m : Matrix) → IsSoundIn form b h m → IsSoundIn General b h m
-  sound_general form m is =
-      let sized : IsBlock (side_of b h) (completed (side_of b h) m) = subst (IsBlock (side_of b h)) is.tree.block (sized_in form (tree_in form b h m) is.tree.canonical) in
-      record {
-        whole = is.whole;
-        rows = is.rows;
-        columns = is.columns;
-        formed = λ same. absurd (not_both same);
-        tree = record {
-          canonical = canonical_of_block b h (completed (side_of b h) m) sized;
-          block = block_of_canonical b h (completed (side_of b h) m) sized.whole sized.tall sized.wide;
-        };
-      }
 
   -- a matrix in the symmetric form is symmetric
   pub sound_symmetric : (m : Matrix) → IsSoundIn Symmetric b h m → IsSymmetric m
