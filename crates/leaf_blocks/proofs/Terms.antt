@@ -1,5 +1,5 @@
 -- The sums that the product loops make term by term: the next sum, and that no sum on the way leaves 128 bits.
-use Rattle.std.proofs.Common.{◌≡◌, ℕ, suc, ◌+◌, ◌*◌, ◌^◌, ◌<◌, ◌≤◌, List, take, drop, ℤ, pos, negsuc, ◌+ℤ◌, ◌*ℤ◌, unsigned_abs, to_z, of_z, SFits, refl, sym, ap, ap₂, ◌∙◌, subst, arith}
+use Rattle.std.proofs.Common.{◌≡◌, ℕ, zero, suc, ◌+◌, ◌*◌, ◌^◌, ◌<◌, ◌≤◌, List, take, drop, ℤ, pos, negsuc, ◌+ℤ◌, ◌*ℤ◌, unsigned_abs, to_z, of_z, SFits, refl, sym, ap, ap₂, ◌∙◌, subst, arith}
 use Rattle.std.specs.Int.{w128}
 use Rattle.std.proofs.lemmas.Int.{ints, to_z-of_z}
 use Rattle.std.proofs.Math.IntN.{+ℤ_idr, zero-*ℤ}
@@ -52,6 +52,16 @@ pub row_term_skipped : (factors other : List ℤ) (columns j k : ℕ) → SFits 
 row_term_skipped factors other columns j k fits bits partial next same is =
     is ∙ nothing_added (number_at factors k) partial (place columns other k j) fits bits
     ∙ total_more k (λ k. number_at factors k *ℤ place columns other k j) partial _ same refl
+
+-- terms whose factors are all 0 add nothing
+pub zero_terms : (factors other : List ℤ) (columns j from n : ℕ) → ((k : ℕ) → k < n → number_at factors (from + k) ≡ pos 0) → sum_below (from + n) (λ k. number_at factors k *ℤ place columns other k j) ≡ sum_below from (λ k. number_at factors k *ℤ place columns other k j)
+zero_terms factors other columns j from zero none =
+    let same : from + 0 ≡ from = omega arith in
+    ap (λ m. sum_below m (λ k. number_at factors k *ℤ place columns other k j)) same
+zero_terms factors other columns j from (suc n) none =
+    let next : from + suc n ≡ suc (from + n) = omega arith in
+    rw (next, none n (omega arith), zero-*ℤ (place columns other (from + n) j), +ℤ_idr (sum_below (from + n) (λ k. number_at factors k *ℤ place columns other k j)))
+    (zero_terms factors other columns j from n (λ k low. none k (omega arith)))
 
 -- ---- The rank-one update: what is added to row i in column j, where the code reads and writes row i as a slice
 module _ (out other : List ℤ) (columns i j n : ℕ) (factor before : ℤ) (long : n ≡ columns) (fits : SFits w128 factor) (within : j < columns) (same : place columns out i j ≡ before) where

@@ -24,6 +24,54 @@ pub fn add_scaled(row: &mut [i128], factor: i128, other: &[i128])
     }
 }
 
+// Adds to a row the terms of the factors from one number up to another, which is not among them: each is the factor times its row of
+// the other matrix. The row has the sums of the terms before them.
+fn add_terms(row: &mut [i128], factors: &[i128], other: &[i128], from: usize, to: usize)
+    requires full { length other.now ≡ length factors.now * length row.old }
+    requires order { from ≤ to }
+    requires within { to ≤ length factors.now }
+    requires before { EachIndex row.old
+        (λ j. number_at row.old j
+        ≡ sum_below from (λ k. number_at factors.now k *ℤ place (length row.old) other.now k j)) }
+    requires fits { EachIndex row.old
+        (λ j. TermsFit (length factors.now)
+        (λ k. number_at factors.now k *ℤ place (length row.old) other.now k j)) }
+    ensures length { length row.new ≡ length row.old }
+    ensures sums { EachIndex row.old
+        (λ j. number_at row.new j
+        ≡ sum_below to (λ k. number_at factors.now k *ℤ place (length row.old) other.now k j)) }
+{
+    let side = row.len();
+    for k in from..to {
+        let factor = factors[k];
+        if factor != 0 {
+            let at = k * side;
+            add_scaled(row, factor, &other[at..at + side]);
+        }
+    }
+}
+
+// The same for as many factors as are passed over at once, which add nothing where all of them are 0.
+fn add_terms_unless_zero(row: &mut [i128], factors: &[i128], other: &[i128], from: usize)
+    requires full { length other.now ≡ length factors.now * length row.old }
+    requires within { from + 8 ≤ length factors.now }
+    requires before { EachIndex row.old
+        (λ j. number_at row.old j
+        ≡ sum_below from (λ k. number_at factors.now k *ℤ place (length row.old) other.now k j)) }
+    requires fits { EachIndex row.old
+        (λ j. TermsFit (length factors.now)
+        (λ k. number_at factors.now k *ℤ place (length row.old) other.now k j)) }
+    ensures length { length row.new ≡ length row.old }
+    ensures sums { EachIndex row.old
+        (λ j. number_at row.new j
+        ≡ sum_below (from + 8) (λ k. number_at factors.now k *ℤ place (length row.old) other.now k j)) }
+{
+    let to = from + PASSED;
+    if !are_zero(&factors[from..to]) {
+        add_terms(row, factors, other, from, to);
+    }
+}
+
 /// The product of a row of factors with a matrix whose rows are as long as `row`, into `row`, whose
 /// numbers are all 0.
 fn product_row_into(row: &mut [i128], factors: &[i128], other: &[i128])
@@ -38,13 +86,12 @@ fn product_row_into(row: &mut [i128], factors: &[i128], other: &[i128])
         ≡ sum_below (length factors.now)
         (λ k. number_at factors.now k *ℤ place (length row.old) other.now k j)) }
 {
-    let side = row.len();
-    for (k, factor) in factors.iter().enumerate() {
-        if *factor != 0 {
-            let from = k * side;
-            add_scaled(row, *factor, &other[from..from + side]);
-        }
+    let mut from = 0;
+    while factors.len() - from >= PASSED {
+        add_terms_unless_zero(row, factors, other, from);
+        from += PASSED;
     }
+    add_terms(row, factors, other, from, factors.len());
 }
 
 /// Adds to each row of `out` its factor times the row `other`: the rank-one update.
