@@ -12,6 +12,7 @@ mod Refilling
 mod Reordering
 mod Revising
 mod Runners
+mod RowReading
 mod Runs
 mod Sweeps
 mod Tallies

@@ -13,8 +13,9 @@ use crate::parts::Parts;
 use task_links::{Caller, Kept, Place};
 use task_states::Slot;
 
-// An input as callers give it.
-fn slot(place: &Place) -> Slot
+/// An input as callers give it.
+#[inline(always)]
+pub(crate) fn slot(place: &Place) -> Slot
     ensures { input_of result ≡ shown_place place.now }
 {
     match place {

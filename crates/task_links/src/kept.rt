@@ -401,6 +401,14 @@ impl<K: Copy> Kept<K> {
         }
     }
 
+    /// The inputs at all four places, of which the first `count` are the task's.
+    #[inline(always)]
+    pub fn open_places(&self) -> [Place; 4]
+        ensures { result ≡ (opened self.now).places }
+    {
+        places(&self.places)
+    }
+
     // The input at a place, as it is kept.
     #[inline(always)]
     pub(crate) fn place(&self, place: u8) -> KeptPlace
