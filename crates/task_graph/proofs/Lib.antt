@@ -1,5 +1,6 @@
 mod Additions
 mod Awaiting
+mod Staying
 mod Strangers
 mod Cleaning
 mod Counting

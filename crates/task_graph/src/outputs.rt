@@ -111,6 +111,7 @@ impl<K: Copy> Parts<K> {
         ensures graph { (awaiter : AnyAwaiter) → IsLeastAwaiter (graph_of self.old) task awaiter → graph_of self.new ≡ delivered (graph_of self.old) task awaiter r }
         ensures input { (awaiter : AnyAwaiter) → IsLeastAwaiter (graph_of self.old) task awaiter → result ≡ task_of awaiter }
         ensures runs { (q : ℕ) → IsRunnable (graph_of self.new) q → (result ≡ Some q) ⊎ IsRunnable (graph_of self.old) q }
+        ensures stays { (q : ℕ) → IsRunnable (graph_of self.old) q → IsRunnable (graph_of self.new) q }
         ensures size { IsSameSize self.old.entries self.new.entries }
     {
         match self.awaiter(task) {

@@ -5,6 +5,7 @@ use Rattle.task_states.specs.Awaiters.{task_of}
 use Rattle.task_states.specs.Steps.{delivered}
 use Rattle.task_states.proofs.Runnables.{runs_changed, runs_same}
 use Rattle.task_graph.specs.Graphs.{graph_of}
+use Rattle.task_graph.proofs.Staying.{stays_known, stays_unasked}
 use Rattle.task_graph.proofs.Awaiting.{one_least}
 use Rattle.task_graph.proofs.Marking.{some_entry}
 use Rattle.task_graph.proofs.parts.Parts.deliver.Goals as goal
@@ -41,3 +42,11 @@ returns-in-Some-Input-clause-runs g c = λ q runs.
 pub returns-in-Some-Asked-clause-runs : goal.returns-in-Some-Asked-clause-runs
 returns-in-Some-Asked-clause-runs g c = λ q runs.
     inr (runs_same (graph_of c.args.self.now) c.args.task q (λ u. record u { asked = None }) (λ u. (refl, refl)) (subst (λ graph. IsRunnable graph q) c.unask.ensures.graph runs))
+
+pub returns-in-Some-Input-clause-stays : goal.returns-in-Some-Input-clause-stays
+returns-in-Some-Input-clause-stays g c =
+    λ q runs. subst (λ graph. IsRunnable graph q) (sym c.settle.ensures.graph) (stays_known (graph_of c.args.self.now) c.in-Some-Input.of q c.in-Some-Input.place c.args.r runs)
+
+pub returns-in-Some-Asked-clause-stays : goal.returns-in-Some-Asked-clause-stays
+returns-in-Some-Asked-clause-stays g c =
+    λ q runs. subst (λ graph. IsRunnable graph q) (sym c.unask.ensures.graph) (stays_unasked (graph_of c.args.self.now) c.args.task q runs)
