@@ -1,5 +1,5 @@
 -- What a row tells is so of its task.
-use Rattle.std.proofs.Common.{◌≡◌, ℕ, Bool, ◌||◌, take, List, [], ◌∷◌, is_some, refl, sym, ap, ap₂, ◌∙◌}
+use Rattle.std.proofs.Common.{◌≡◌, ℕ, Bool, not, ◌&&◌, ◌||◌, take, List, [], ◌∷◌, is_some, refl, sym, ap, ap₂, ◌∙◌}
 use Rattle.std.specs.Prelude.{map as each, if◌then◌else◌}
 use Rattle.std.specs.List.{list_any}
 use Rattle.std.proofs.lemmas.List.{take-map}
@@ -25,3 +25,7 @@ pub row_status : {K : Type 0} (row : TaskRow K) (given : List Slot) (waits runs 
     → (if waits then Waiting else (if runs then Running else Ready)) ≡ status_of (unfinished_in row)
 row_status row given waits runs given_is waits_is runs_is =
     ap₂ (λ w r. if w then Waiting else (if r then Running else Ready)) (waits_is ∙ any_given given ∙ ap (λ slots. list_any is_awaiting (each input_of slots)) given_is) runs_is
+
+-- whether a task can be run that comes with inputs, by two tests
+pub may_run_is : (stopped is_stopped waits : Bool) (slots : List Slot) → is_stopped ≡ stopped → waits ≡ list_any (λ slot. is_awaiting (input_of slot)) slots → (not stopped && not waits) ≡ (not is_stopped && not (list_any is_awaiting (each input_of slots)))
+may_run_is stopped is_stopped waits slots one two = ap₂ (λ a b. not a && not b) (sym one) (two ∙ any_given slots)

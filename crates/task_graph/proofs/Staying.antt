@@ -1,5 +1,5 @@
 -- Which tasks can still be run after a step.
-use Rattle.std.proofs.Common.{◌≡◌, ℕ, zero, suc, Bool, true, false, cond, Option, Some, None, is_some, refl, sym, ap, ◌∙◌, ◌⊎◌, inl, inr, List, [], ◌∷◌}
+use Rattle.std.proofs.Common.{not, ◌&&◌, ◌≡◌, ℕ, zero, suc, Bool, true, false, cond, Option, Some, None, is_some, refl, sym, ap, ap₂, ◌∙◌, ◌⊎◌, inl, inr, List, [], ◌∷◌}
 use Rattle.std.specs.Prelude.{map as each, set, if◌then◌else◌}
 use Rattle.std.specs.List.{list_any}
 use Rattle.std.specs.Option.{option_map}
@@ -9,7 +9,7 @@ use Rattle.task_states.specs.States.{Input, Known, Awaits, Unfinished, Graph, is
 use Rattle.task_states.specs.Steps.{with_task, redirected, inputs_redirected, added, removed, asked_moved, forwarded, with_asked, without_asked, started, given_back}
 use Rattle.task_states.specs.Awaiters.{IsRunnable}
 use Rattle.task_states.proofs.Maps.{same_or_not, test_same, test_apart, get-each_changed, get_inserted, get_removed}
-use Rattle.task_states.proofs.Options.{not_none, map_behind}
+use Rattle.task_states.proofs.Options.{not_none, same_some, map_behind}
 use Rattle.task_states.proofs.Changes.{get_changed}
 use Rattle.task_states.proofs.Runnables.{runs_from, ready_of}
 
@@ -20,6 +20,14 @@ idle_test false runs is = refl
 busy_test : (waits : Bool) → (if waits then Waiting else Running) ≡ Ready → ⊥
 busy_test true is = let clash : Waiting ≡ Ready = is in cc
 busy_test false is = let clash : Running ≡ Ready = is in cc
+
+both_false : (a b : Bool) → true ≡ (not a && not b) → (a ≡ false) × (b ≡ false)
+both_false true b test = absurd (cc)
+both_false false true test = absurd (cc)
+both_false false false test = (refl, refl)
+
+not_both_false : (a b : Bool) → false ≡ (not a && not b) → a ≡ false → b ≡ false → ⊥
+not_both_false a b test one two = let clash : false ≡ true = test ∙ ap₂ (λ x y. not x && not y) one two in cc
 
 module _ {X : Type 0} where
   any_known : (inputs : List (Input X)) (place : ℕ) (x : X) → list_any is_awaiting inputs ≡ false → list_any is_awaiting (set inputs place (Known x)) ≡ false
@@ -73,6 +81,10 @@ module _ {X K : Type 0} (graph : Graph X K) where
         | inr apart ↦ apart_changed t q change apart runs
       ]
 
+  here_added : (t caller : ℕ) (kind : K) (inputs : List (Input X)) → task_at (added graph t caller kind inputs) t ≡ Some (record { caller = caller; kind = kind; inputs = inputs; runner = None; asked = None })
+  here_added t caller kind inputs =
+      get_inserted graph.tasks t (record { caller = caller; kind = kind; inputs = inputs; runner = None; asked = None }) t ∙ ap (λ b. cond b (Some (record { caller = caller; kind = kind; inputs = inputs; runner = None; asked = None })) (map.get graph.tasks t)) (test_same t)
+
   -- one task more
   pub stays_added : (t caller : ℕ) (kind : K) (inputs : List (Input X)) (q : ℕ) → task_at graph t ≡ None → IsRunnable graph q → IsRunnable (added graph t caller kind inputs) q
   stays_added t caller kind inputs q new runs =
@@ -80,6 +92,19 @@ module _ {X K : Type 0} (graph : Graph X K) where
         | inl same ↦ absurd (not_none (map.get graph.tasks q) runs.unfinished (ap (map.get graph.tasks) same ∙ new) runs.there)
         | inr apart ↦ runs_from (added graph t caller kind inputs) q runs.unfinished (get_inserted graph.tasks t (record { caller = caller; kind = kind; inputs = inputs; runner = None; asked = None }) q ∙ ap (λ b. cond b (Some (record { caller = caller; kind = kind; inputs = inputs; runner = None; asked = None })) (map.get graph.tasks q)) (test_apart q t apart) ∙ runs.there) (ready_of graph q runs) runs.not_stopped
       ]
+
+  -- the task that comes, with its inputs
+  pub runs_new : (t caller : ℕ) (kind : K) (inputs : List (Input X)) → true ≡ (not (is_stopped graph caller) && not (list_any is_awaiting inputs)) → IsRunnable (added graph t caller kind inputs) t
+  runs_new t caller kind inputs test =
+      let both = both_false (is_stopped graph caller) (list_any is_awaiting inputs) test in
+      runs_from (added graph t caller kind inputs) t (record { caller = caller; kind = kind; inputs = inputs; runner = None; asked = None }) (here_added t caller kind inputs) (ap (λ b. if b then Waiting else Ready) both.1) both.0
+
+  pub never_new : (t caller : ℕ) (kind : K) (inputs : List (Input X)) → false ≡ (not (is_stopped graph caller) && not (list_any is_awaiting inputs)) → IsRunnable (added graph t caller kind inputs) t → ⊥
+  never_new t caller kind inputs test runs =
+      let one : record { caller = caller; kind = kind; inputs = inputs; runner = None; asked = None } ≡ runs.unfinished = same_some _ runs.unfinished (sym (here_added t caller kind inputs) ∙ runs.there) in
+      let ready = ready_of (added graph t caller kind inputs) t runs in
+      not_both_false (is_stopped graph caller) (list_any is_awaiting inputs) test
+      (ap (λ (u : Unfinished X K). is_stopped graph u.caller) one ∙ runs.not_stopped) (ap (λ (u : Unfinished X K). list_any is_awaiting u.inputs) one ∙ idle_of runs.unfinished ready)
 
   -- one task less
   pub lost_removed : (t q : ℕ) → IsRunnable graph q → (q ≡ t) ⊎ IsRunnable (removed graph t) q

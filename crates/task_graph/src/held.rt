@@ -191,9 +191,12 @@ impl<K: Copy> Held<K> {
         ensures graph { graph_of self.new.parts ≡ added (graph_of self.old.parts) task caller kind (inputs_given inputs.now) }
         ensures spare { self.old.spare ≡ self.new.spare + 1 }
     {
+        let runs = self.parts.may_run(caller, inputs);
         self.parts.add(task, caller, kind, inputs);
         self.spare -= 1;
-        self.requeue(task);
+        if runs {
+            self.enqueue(task);
+        }
     }
 
     /// The caller of a task awaits it.

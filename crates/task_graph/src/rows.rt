@@ -1,7 +1,6 @@
 // What is known of a task, read at once.
 ghost use Rattle.std.specs.Prelude.{◌≡◌, ◌<◌, ◌≤◌, take, slice_get, map as each, option_map, IfSome};
-ghost use Rattle.std.specs.List.{list_any};
-ghost use Rattle.task_states.specs.States.{status_of, task_at, is_awaiting};
+ghost use Rattle.task_states.specs.States.{status_of, task_at};
 ghost use Rattle.task_links.specs.Inside.{shown_place, shown_entry};
 ghost use Rattle.task_links.specs.Kept.{opened};
 ghost use Rattle.task_graph.specs.Contents.{input_of, inputs_given};
@@ -9,7 +8,7 @@ ghost use Rattle.task_graph.specs.Rows.{unfinished_in};
 ghost use Rattle.task_graph.specs.Graphs.{graph_of, IsWhole};
 
 use crate::parts::Parts;
-use crate::reading::slot;
+use crate::reading::{any_awaits, slot};
 use task_links::{Kept, Place};
 use task_states::{Slot, TaskStatus};
 
@@ -22,24 +21,6 @@ pub struct TaskRow<K> {
     pub asked: Option<u128>,
     pub count: u32,
     pub slots: [Slot; 4],
-}
-
-// Whether an input awaits a task.
-#[inline(always)]
-fn awaits(slot: &Slot) -> bool
-    ensures { result ≡ is_awaiting (input_of slot.now) }
-{
-    match slot {
-        Slot::Known(_) => false,
-        Slot::Awaits(_, _) => true,
-    }
-}
-
-// Whether one of these inputs awaits a task.
-fn any_awaits(slots: &[Slot]) -> bool
-    ensures { result ≡ list_any (λ slot. is_awaiting (input_of slot)) slots.now }
-{
-    slots.iter().any(|slot| awaits(slot))
 }
 
 // Inputs as callers give them.
