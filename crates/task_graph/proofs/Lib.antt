@@ -4,6 +4,7 @@ mod Staying
 mod Strangers
 mod Cleaning
 mod Counting
+mod FirstInputs
 mod Keeping
 mod Marking
 mod Moves

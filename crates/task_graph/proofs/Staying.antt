@@ -43,7 +43,7 @@ module _ {X : Type 0} where
 
 module _ {X K : Type 0} where
   -- a Ready task awaits nothing
-  idle_of : (u : Unfinished X K) → status_of u ≡ Ready → list_any is_awaiting u.inputs ≡ false
+  pub idle_of : (u : Unfinished X K) → status_of u ≡ Ready → list_any is_awaiting u.inputs ≡ false
   idle_of u ready = idle_test (list_any is_awaiting u.inputs) (is_some u.runner) ready
 
   -- a Ready task with a known input more
@@ -59,7 +59,7 @@ module _ {X K : Type 0} where
   redirected_status task to u = ap (λ b. if b then Waiting else (if is_some u.runner then Running else Ready)) (any_redirected task to u.inputs)
 
 module _ {X K : Type 0} (graph : Graph X K) where
-  there_changed : (t : ℕ) (change : Unfinished X K → Unfinished X K) → task_at (with_task graph t change) t ≡ option_map change (task_at graph t)
+  pub there_changed : (t : ℕ) (change : Unfinished X K → Unfinished X K) → task_at (with_task graph t change) t ≡ option_map change (task_at graph t)
   there_changed t change = get_changed graph.tasks t t change ∙ ap (λ b. cond b (option_map change (map.get graph.tasks t)) (map.get graph.tasks t)) (test_same t)
 
   -- another task than the one that changed

@@ -239,14 +239,13 @@ impl<K: Copy> Held<K> {
     pub fn deliver(&mut self, task: u128, r: Ref)
         requires held { IsHeld self.old }
         requires there { IsSome (task_at (graph_of self.old.parts) task) }
-        requires awaited { IsNotAwaited (graph_of self.old.parts) task → ⊥ }
         ensures held { IsHeld self.new }
         ensures graph { (awaiter : AnyAwaiter) → IsLeastAwaiter (graph_of self.old.parts) task awaiter → graph_of self.new.parts ≡ delivered (graph_of self.old.parts) task awaiter r }
         ensures spare { self.new.spare ≡ self.old.spare }
     {
         match self.parts.deliver(task, r) {
             None => {}
-            Some(of) => self.requeue(of),
+            Some(of) => self.enqueue(of),
         }
     }
 
