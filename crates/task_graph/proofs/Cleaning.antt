@@ -4,7 +4,11 @@ use Rattle.task_states.specs.States.{Graph}
 use Rattle.task_states.specs.Awaiters.{IsRunnable}
 use Rattle.task_states.proofs.Maps.{same_or_not, test_same, test_apart}
 use Rattle.task_links.specs.declared.queue.Queue.{Queue}
+use Rattle.task_links.specs.Inside.{IsSameSize}
 use Rattle.task_links.specs.Queue.{is_queued, IsQueueLeast}
+use Rattle.task_graph.specs.declared.held.Held.{Held}
+use Rattle.task_graph.specs.declared.parts.Parts.{Parts}
+use Rattle.task_graph.specs.Graphs.{graph_of, IsWhole, IsHeld}
 
 pub same_least : (queue : Queue) (a b : ℕ) → IsQueueLeast queue (Some a) → IsQueueLeast queue (Some b) → a ≡ b
 same_least queue a b one two =
@@ -33,3 +37,39 @@ module _ {X K : Type 0} (graph : Graph X K) (old new : Queue) where
         | inl same ↦ put task ∙ ap (λ b. b || is_queued task old) (ap (λ t. nat_eq t number) same ∙ test_same number)
         | inr before ↦ put task ∙ ap (λ b. nat_eq task number || b) before ∙ elim (nat_eq task number) as (λ b. (b || true) ≡ true) [ true ↦ refl | false ↦ refl ]
       ]
+
+module _ {X K : Type 0} (graph : Graph X K) (old new : Queue) where
+  -- the least of one more number is that number, or the least of those before
+  pub least_more : (number : ℕ) → ((q : ℕ) → is_queued q new ≡ (nat_eq q number || is_queued q old)) → IsRunnable graph number → ((task : ℕ) → IsQueueLeast old (Some task) → IsRunnable graph task)
+      → (task : ℕ) → IsQueueLeast new (Some task) → IsRunnable graph task
+  least_more number put runs least task is =
+      elim (same_or_not task number) [
+        | inl same ↦ subst (IsRunnable graph) (sym same) runs
+        | inr apart ↦ least task (
+          sym (ap (λ b. b || is_queued task old) (test_apart task number apart)) ∙ sym (put task) ∙ is.0,
+          λ other before. is.1 other (put other ∙ ap (λ b. nat_eq other number || b) before ∙ elim (nat_eq other number) as (λ b. (b || true) ≡ true) [ true ↦ refl | false ↦ refl ]),
+        )
+      ]
+
+-- one that may be missing and can't be run
+pub queued_but : {X K : Type 0} (graph : Graph X K) (queue : Queue) (but : ℕ) → (IsRunnable graph but → ⊥) → ((task : ℕ) → IsRunnable graph task → (task ≡ but) ⊎ (is_queued task queue ≡ true))
+    → (task : ℕ) → IsRunnable graph task → is_queued task queue ≡ true
+queued_but graph queue but never queued task runs =
+    elim (queued task runs) [ inl same ↦ absurd (never (subst (IsRunnable graph) same runs)) | inr is ↦ is ]
+
+-- after a step that leaves which tasks can be run
+pub held_after : {K : Type 0} (old : Held K) (parts : Parts K) → IsHeld old → IsWhole parts → IsSameSize old.parts.entries parts.entries → ((q : ℕ) → IsRunnable (graph_of parts) q → IsRunnable (graph_of old.parts) q)
+    → ((q : ℕ) → IsRunnable (graph_of old.parts) q → IsRunnable (graph_of parts) q) → IsHeld (record { parts = parts; ready = old.ready; spare = old.spare })
+held_after old parts held whole size back stays =
+    let entries = held.room.entries in
+    let numbers = held.room.numbers in
+    let few = held.room.few in
+    let len = size.len in
+    let room = size.room in
+    record {
+      whole = whole;
+      queue = held.queue;
+      queued = λ q runs. held.queued q (back q runs);
+      least = λ q is. stays q (held.least q is);
+      room = record { entries = omega arith; numbers = omega arith; few = omega arith };
+    }

@@ -1,8 +1,10 @@
 mod Additions
 mod Awaiting
+mod Staying
 mod Strangers
 mod Cleaning
 mod Counting
+mod FirstInputs
 mod Keeping
 mod Marking
 mod Moves
@@ -12,6 +14,7 @@ mod Refilling
 mod Reordering
 mod Revising
 mod Runners
+mod RowReading
 mod Runs
 mod Sweeps
 mod Tallies

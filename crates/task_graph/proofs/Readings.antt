@@ -15,7 +15,7 @@ use Rattle.task_graph.specs.declared.parts.Parts.{Parts}
 use Rattle.task_links.specs.Inside.{Station, inputs_of, shown_place, entries_at, shown_entry, station_at, station_of}
 use Rattle.task_links.specs.Callers.{caller_at, bounds_of}
 use Rattle.task_links.specs.Weave.{Leads}
-use Rattle.task_links.specs.Order.{row_at, IsTail}
+use Rattle.task_links.specs.Order.{Bounds, row_at, IsTail, IsOrdered}
 use Rattle.task_graph.specs.Graphs.{graph_of, IsWhole, IsHeld}
 use Rattle.task_links.specs.Queue.{IsQueueLeast}
 use Rattle.task_graph.specs.Reading.{IsCeiling, HasWanted, is_wanted, rest_to}
@@ -32,6 +32,10 @@ some_of (Some x) is = (x, refl)
 pub least_runs : {K : Type 0} (held : Held K) (o : Option ℕ) → IsHeld held → IsQueueLeast held.ready o → IsLeastOf (IsRunnable (graph_of held.parts)) o
 least_runs held None is least = λ q runs. let clash : false ≡ true = sym (least q) ∙ is.queued q runs in cc
 least_runs held (Some n) is least = (is.least n least, λ q runs. least.1 q (is.queued q runs))
+
+-- nothing follows the last task of a caller
+pub tail_of : (bounds : ℕ → Option Bounds) (stations : ℕ → Option Station) (caller : ℕ) → IsOrdered bounds stations → (own : Bounds) → bounds caller ≡ Some own → (last : ℕ) → own.last ≡ Some last → IsTail stations caller own.first (Some last)
+tail_of bounds stations caller ordered own is last at = subst (IsTail stations caller own.first) at (ordered.lasts caller own is)
 
 module _ {K : Type 0} (parts : Parts K) (whole : IsWhole parts) where
   -- a task of a caller as a row

@@ -1,10 +1,11 @@
 -- A task comes with its inputs, one after another.
-use Rattle.std.specs.Prelude.{◌≡◌, ℕ, zero, suc, ◌<◌, ◌⊎◌, List, [], ◌∷◌, slice_get, map as each, Some}
+use Rattle.std.specs.Prelude.{◌≡◌, ℕ, Bool, not, ◌&&◌, zero, suc, ◌<◌, ◌⊎◌, List, [], ◌∷◌, slice_get, map as each, Some}
 use Rattle.cht_ids.specs.declared.refs.Ref.{Ref}
 use Rattle.cht_ids.specs.declared.refs.Ref.TheVariants.{Null}
 use Rattle.task_states.specs.declared.states.Slot.{Slot}
 use Rattle.task_states.specs.declared.states.Slot.TheVariants.{Known, Awaits}
-use Rattle.task_states.specs.States.{Input, Known as KnownInput}
+use Rattle.std.specs.List.{list_any}
+use Rattle.task_states.specs.States.{Input, Known as KnownInput, Graph, is_awaiting, is_stopped}
 use Rattle.task_states.specs.Steps.{added}
 use Rattle.task_links.specs.declared.entries.Link.{Link}
 use Rattle.task_links.specs.declared.entries.Place.{Place}
@@ -15,6 +16,10 @@ use Rattle.task_links.specs.Inside.{entries_at}
 use Rattle.task_links.specs.Weave.{link_at}
 use Rattle.task_graph.specs.Contents.{input_of}
 use Rattle.task_graph.specs.Graphs.{graph_of, IsWhole}
+
+-- whether a task of a caller that comes with inputs can be run
+abbrev pub can_run_with : {K : Type 0} → Graph Ref K → ℕ → List (Input Ref) → Bool
+can_run_with graph caller inputs = not (is_stopped graph caller) && not (list_any is_awaiting inputs)
 
 -- an input without what it awaits
 abbrev pub known_place : Slot → Place

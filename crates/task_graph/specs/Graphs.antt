@@ -86,6 +86,10 @@ module _ {K : Type 0} where
   abbrev pub AreQueuedBut : Held K → ℕ → Type 0
   AreQueuedBut held but = (task : ℕ) → IsRunnable (graph_of held.parts) task → (task ≡ but) ⊎ (is_queued task held.ready ≡ true)
 
+  -- The least number is that of a task that can be run.
+  abbrev pub IsLeastRunnable : Held K → Type 0
+  IsLeastRunnable held = (task : ℕ) → IsQueueLeast held.ready (Some task) → IsRunnable (graph_of held.parts) task
+
   -- There is room for the reserved tasks, and for the number of each.
   pub record HasRoom (held : Held K) : Type 0 where
     pub entries : held.spare ≤ room_of held.parts.entries
@@ -97,7 +101,7 @@ module _ {K : Type 0} where
     pub whole : IsWhole held.parts
     pub queue : IsQueue held.ready
     pub queued : AreQueued held
-    pub least : (task : ℕ) → IsQueueLeast held.ready (Some task) → IsRunnable (graph_of held.parts) task
+    pub least : IsLeastRunnable held
     pub room : HasRoom held
 
   -- the Ready ones of the first entries are among the numbers, as many at most

@@ -4,4 +4,5 @@ pub mod Counted
 pub mod Graphs
 pub mod Moving
 pub mod Reading
+pub mod Rows
 pub mod Sweeping

@@ -3,7 +3,10 @@ use Rattle.std.specs.Prelude.{◌≡◌, ℕ, ◌<◌, ◌≤◌, ◌+◌, ◌-�
 use Rattle.std.specs.Option.{is_some}
 use Rattle.cht_ids.specs.declared.refs.Ref.{Ref}
 use Rattle.task_states.specs.States.{Graph, caller_of}
+use Rattle.task_states.specs.declared.states.Awaiter.{Awaiter}
+use Rattle.task_states.specs.declared.states.Awaiter.TheVariants.{Input as AtInput, Asked}
 use Rattle.task_links.specs.declared.callers.Caller.{Caller}
+use Rattle.task_links.specs.declared.entries.Spot.{Spot}
 
 -- a task of a caller, below which all have numbers that are not above another, or none where all have
 abbrev pub IsCeiling : {K : Type 0} → Graph Ref K → ℕ → ℕ → Option ℕ → Type 0
@@ -22,3 +25,8 @@ HasWanted rows = (i : ℕ) × (row : Caller) × (slice_get rows i ≡ Some row) 
 abbrev pub rest_to : ℕ → Option ℕ → ℕ
 rest_to last None = 0
 rest_to last (Some task) = last + 1 - task
+
+-- the input that an awaiter is, if it is one
+abbrev pub spot_of : Awaiter → Option Spot
+spot_of (AtInput task place number) = Some (record { task = task; place = place })
+spot_of (Asked caller number) = None

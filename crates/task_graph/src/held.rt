@@ -1,14 +1,14 @@
 // The fields behind `Tasks`, and its steps.
-ghost use Rattle.std.specs.Prelude.{◌≡◌, ◌+◌, ◌<◌, ◌≤◌, ℕ, Some, None, OnOk, IsOk, IsSome, true, length};
-ghost use Rattle.task_graph.specs.Graphs.{graph_of, IsWhole, AreQueued, AreQueuedBut, HasRoom, IsHeld};
-ghost use Rattle.task_links.specs.Queue.{is_queued, IsQueue, queue_len, queue_capacity};
+ghost use Rattle.std.specs.Prelude.{◌≡◌, ◌+◌, ◌<◌, ◌≤◌, ℕ, Some, None, OnOk, IsOk, IsSome, true, length, ◌⊎◌};
+ghost use Rattle.task_graph.specs.Graphs.{graph_of, IsWhole, AreQueued, AreQueuedBut, IsLeastRunnable, HasRoom, IsHeld};
+ghost use Rattle.task_links.specs.Queue.{is_queued, IsQueue, IsQueueLeast, queue_len, queue_capacity};
 ghost use Rattle.task_states.specs.declared.states.TaskStatus.TheVariants.{Ready, Running};
 ghost use Rattle.std.specs.HashMap.{hash_map_len};
 ghost use Rattle.task_links.specs.declared.entries.Entry.{Entry as AnyEntry};
 ghost use Rattle.task_links.specs.Kept.{opened};
 ghost use Rattle.task_links.specs.Inside.{shown_entry, entries_at};
 ghost use Rattle.task_states.specs.States.{no_tasks, status_of, status, task_at, AwaitsNothing};
-ghost use Rattle.task_states.specs.Awaiters.{IsFree, IsNotAwaited, IsLeastAwaiter};
+ghost use Rattle.task_states.specs.Awaiters.{IsFree, IsNotAwaited, IsLeastAwaiter, IsRunnable};
 ghost use Rattle.task_states.specs.Steps.{added, with_asked, started, given_back, delivered, forwarded, removed, with_stopped, abandoned};
 ghost use Rattle.task_states.specs.declared.states.Awaiter.{Awaiter as AnyAwaiter};
 ghost use Rattle.task_graph.specs.Contents.{inputs_given, AreOf, AreFree, AreOfOneCaller, IsAskedOnce};
@@ -97,11 +97,13 @@ impl<K: Copy> Held<K> {
         }
     }
 
-    // One task more can be run.
+    // One task more can be run. The least number stays that of a task that can be run, and so does each number that comes.
     fn enqueue(&mut self, task: u128)
         requires whole { IsWhole self.old.parts }
         requires queue { IsQueue self.old.ready }
         requires queued { AreQueuedBut self.old task }
+        requires least { IsLeastRunnable self.old }
+        requires runs { IsRunnable (graph_of self.old.parts) task }
         requires room { HasRoom self.old }
         ensures held { IsHeld self.new }
         ensures parts { self.new.parts ≡ self.old.parts }
@@ -112,7 +114,6 @@ impl<K: Copy> Held<K> {
             self.clean();
         } else {
             self.ready.push(task);
-            self.clean();
         }
     }
 
@@ -121,6 +122,7 @@ impl<K: Copy> Held<K> {
         requires whole { IsWhole self.old.parts }
         requires queue { IsQueue self.old.ready }
         requires queued { AreQueuedBut self.old task }
+        requires least { IsLeastRunnable self.old }
         requires room { HasRoom self.old }
         ensures held { IsHeld self.new }
         ensures parts { self.new.parts ≡ self.old.parts }
@@ -128,8 +130,29 @@ impl<K: Copy> Held<K> {
     {
         if self.parts.is_runnable(task) {
             self.enqueue(task);
-        } else {
-            self.clean();
+        }
+    }
+
+    // One task can't be run any more: its number is taken out where it is the least.
+    fn retire(&mut self, task: u128)
+        requires whole { IsWhole self.old.parts }
+        requires queue { IsQueue self.old.ready }
+        requires queued { AreQueued self.old }
+        requires never { IsRunnable (graph_of self.old.parts) task → ⊥ }
+        requires least { (q : ℕ) → IsQueueLeast self.old.ready (Some q) → (q ≡ task) ⊎ IsRunnable (graph_of self.old.parts) q }
+        requires room { HasRoom self.old }
+        ensures held { IsHeld self.new }
+        ensures parts { self.new.parts ≡ self.old.parts }
+        ensures spare { self.new.spare ≡ self.old.spare }
+    {
+        match self.ready.least() {
+            None => {}
+            Some(least) => {
+                if least == task {
+                    self.ready.drop_least();
+                    self.clean();
+                }
+            }
         }
     }
 
@@ -168,9 +191,12 @@ impl<K: Copy> Held<K> {
         ensures graph { graph_of self.new.parts ≡ added (graph_of self.old.parts) task caller kind (inputs_given inputs.now) }
         ensures spare { self.old.spare ≡ self.new.spare + 1 }
     {
+        let runs = self.parts.may_run(caller, inputs);
         self.parts.add(task, caller, kind, inputs);
         self.spare -= 1;
-        self.requeue(task);
+        if runs {
+            self.enqueue(task);
+        }
     }
 
     /// The caller of a task awaits it.
@@ -183,7 +209,6 @@ impl<K: Copy> Held<K> {
         ensures spare { self.new.spare ≡ self.old.spare }
     {
         self.parts.ask(task, number);
-        self.clean();
     }
 
     /// A worker runs a Ready task.
@@ -195,7 +220,7 @@ impl<K: Copy> Held<K> {
         ensures spare { self.new.spare ≡ self.old.spare }
     {
         self.parts.start(task, worker);
-        self.clean();
+        self.retire(task);
     }
 
     /// No worker runs a Running task any more.
@@ -214,14 +239,13 @@ impl<K: Copy> Held<K> {
     pub fn deliver(&mut self, task: u128, r: Ref)
         requires held { IsHeld self.old }
         requires there { IsSome (task_at (graph_of self.old.parts) task) }
-        requires awaited { IsNotAwaited (graph_of self.old.parts) task → ⊥ }
         ensures held { IsHeld self.new }
         ensures graph { (awaiter : AnyAwaiter) → IsLeastAwaiter (graph_of self.old.parts) task awaiter → graph_of self.new.parts ≡ delivered (graph_of self.old.parts) task awaiter r }
         ensures spare { self.new.spare ≡ self.old.spare }
     {
         match self.parts.deliver(task, r) {
-            None => self.requeue(task),
-            Some(of) => self.requeue(of),
+            None => {}
+            Some(of) => self.enqueue(of),
         }
     }
 
@@ -236,7 +260,6 @@ impl<K: Copy> Held<K> {
         ensures spare { self.new.spare ≡ self.old.spare }
     {
         self.parts.forward(task, to);
-        self.clean();
     }
 
     /// A task that awaits nothing, and that nobody awaits, goes.
@@ -250,7 +273,7 @@ impl<K: Copy> Held<K> {
         ensures spare { self.new.spare ≡ self.old.spare }
     {
         self.parts.remove(task);
-        self.clean();
+        self.retire(task);
     }
 
     /// A caller is stopped.

@@ -8,7 +8,9 @@ mod held;
 mod outputs;
 mod parts;
 mod reading;
+mod rows;
 mod running;
 mod tasks;
 
+pub use rows::TaskRow;
 pub use tasks::Tasks;

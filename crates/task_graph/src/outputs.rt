@@ -2,15 +2,19 @@
 ghost use Rattle.std.specs.Prelude.{◌≡◌, ◌<◌, ℕ, Some, None, IsSome, ◌⊎◌, set, Option};
 ghost use Rattle.task_links.specs.Inside.{entries_at, IsSameSize, place_at};
 ghost use Rattle.task_links.specs.Kept.{opened};
-ghost use Rattle.task_states.specs.States.{Known as KnownInput, Awaits as AwaitsTask, task_at};
+ghost use Rattle.std.specs.List.{list_any};
+ghost use Rattle.std.specs.Option.{option_map};
+ghost use Rattle.cht_ids.specs.declared.refs.Ref.{Ref as AnyRef};
+ghost use Rattle.task_states.specs.States.{Known as KnownInput, Awaits as AwaitsTask, Unfinished as AnyUnfinished, task_at, is_awaiting};
 ghost use Rattle.task_states.specs.Steps.{with_task, delivered, inputs_redirected, forwarded};
 ghost use Rattle.task_links.specs.Weave.{head_at, link_at, IsFirst, IsUntied, IsTied, IsAtHome, IsUnused, IsUnasked, IsFirstIfInput, Head as AnyHead};
 ghost use Rattle.task_graph.specs.Contents.{AreOfOneCaller, IsAskedOnce};
 ghost use Rattle.task_graph.specs.Moving.{IsMovable, IsMoved};
 ghost use Rattle.task_states.specs.declared.states.Awaiter.{Awaiter as AnyAwaiter};
 ghost use Rattle.task_links.specs.declared.entries.Spot.{Spot as AnySpot};
-ghost use Rattle.task_states.specs.Awaiters.{IsNotAwaited, IsAwaiterFound, IsLeastAwaiter, task_of, IsRunnable};
+ghost use Rattle.task_states.specs.Awaiters.{IsNotAwaited, IsAwaiterFound, IsLeastAwaiter, IsRunnable};
 ghost use Rattle.task_graph.specs.Graphs.{graph_of, IsWhole};
+ghost use Rattle.task_graph.specs.Reading.{spot_of};
 
 use crate::parts::Parts;
 use cht_ids::Ref;
@@ -71,14 +75,16 @@ impl<K: Copy> Parts<K> {
         }
     }
 
-    // The first input that awaits a task gets a reference. Answers what it awaited.
-    fn settle(&mut self, spot: Spot, r: Ref) -> Link
+    // The first input that awaits a task gets a reference. Answers what it awaited, and whether another input of its task awaits
+    // a task.
+    fn settle(&mut self, spot: Spot, r: Ref) -> (Link, bool)
         requires whole { IsWhole self.old }
         requires first { IsFirst (head_at (entries_at self.old.entries)) (link_at (entries_at self.old.entries)) spot }
         ensures whole { IsWhole self.new }
-        ensures link { link_at (entries_at self.old.entries) spot ≡ Some result }
-        ensures untied { IsUntied (head_at (entries_at self.old.entries)) (head_at (entries_at self.new.entries)) (link_at (entries_at self.old.entries)) (link_at (entries_at self.new.entries)) spot result }
+        ensures link { link_at (entries_at self.old.entries) spot ≡ Some result.0 }
+        ensures untied { IsUntied (head_at (entries_at self.old.entries)) (head_at (entries_at self.new.entries)) (link_at (entries_at self.old.entries)) (link_at (entries_at self.new.entries)) spot result.0 }
         ensures graph { graph_of self.new ≡ with_task (graph_of self.old) spot.task (λ u. record u { inputs = set u.inputs spot.place (KnownInput r) }) }
+        ensures waits { option_map (λ unfinished. list_any is_awaiting unfinished.inputs) (task_at (graph_of self.new) spot.task) ≡ Some result.1 }
         ensures there { IsSome (place_at (entries_at self.new.entries) spot) }
         ensures size { IsSameSize self.old.entries self.new.entries }
     {
@@ -102,34 +108,73 @@ impl<K: Copy> Parts<K> {
         self.entries.join(spot, task, number);
     }
 
-    /// The awaiter of a task with the least number gets a reference. Answers the task whose input it is, if it is one.
+    // The input with the least number that awaits a task of which this is kept; `None` where what the caller asked has a lower
+    // number, or no input awaits the task.
+    fn next_input(&self, task: u128, kept: &Kept<K>) -> Option<Spot>
+        requires whole { IsWhole self.now }
+        requires there { entries_at self.now.entries task ≡ Some (opened kept.now) }
+        ensures input { (awaiter : AnyAwaiter) → IsLeastAwaiter (graph_of self.now) task awaiter → spot_of awaiter ≡ result }
+        ensures first { (spot : AnySpot) → result ≡ Some spot → IsFirst (head_at (entries_at self.now.entries)) (link_at (entries_at self.now.entries)) spot }
+        ensures own { (spot : AnySpot) (unfinished : AnyUnfinished AnyRef K) → result ≡ Some spot → task_at (graph_of self.now) spot.task ≡ Some unfinished → unfinished.caller ≡ kept.now.caller }
+    {
+        match kept.first() {
+            None => None,
+            Some(spot) => match kept.asked() {
+                None => Some(spot),
+                Some(number) => {
+                    let link = self.entries.link(spot);
+                    if number < link.number {
+                        None
+                    } else {
+                        Some(spot)
+                    }
+                }
+            },
+        }
+    }
+
+    // The first input that awaits a task gets a reference. Answers its own task, one of this caller, if it can be run then.
+    fn settle_first(&mut self, spot: Spot, r: Ref, caller: u32) -> Option<u128>
+        requires whole { IsWhole self.old }
+        requires first { IsFirst (head_at (entries_at self.old.entries)) (link_at (entries_at self.old.entries)) spot }
+        requires own { (unfinished : AnyUnfinished AnyRef K) → task_at (graph_of self.old) spot.task ≡ Some unfinished → unfinished.caller ≡ caller }
+        requires low { caller < 64 }
+        ensures whole { IsWhole self.new }
+        ensures graph { graph_of self.new ≡ with_task (graph_of self.old) spot.task (λ u. record u { inputs = set u.inputs spot.place (KnownInput r) }) }
+        ensures runs { (q : ℕ) → IsRunnable (graph_of self.new) q → (result ≡ Some q) ⊎ IsRunnable (graph_of self.old) q }
+        ensures ready { (q : ℕ) → result ≡ Some q → IsRunnable (graph_of self.new) q }
+        ensures size { IsSameSize self.old.entries self.new.entries }
+    {
+        let row = self.callers.get(caller);
+        let settled = self.settle(spot, r);
+        if settled.1 {
+            None
+        } else if row.stopped {
+            None
+        } else {
+            Some(spot.task)
+        }
+    }
+
+    /// The awaiter of a task with the least number gets a reference. Answers the task whose input it is, if that can be run then.
     pub fn deliver(&mut self, task: u128, r: Ref) -> Option<u128>
         requires whole { IsWhole self.old }
         requires there { IsSome (task_at (graph_of self.old) task) }
-        requires awaited { IsNotAwaited (graph_of self.old) task → ⊥ }
         ensures whole { IsWhole self.new }
         ensures graph { (awaiter : AnyAwaiter) → IsLeastAwaiter (graph_of self.old) task awaiter → graph_of self.new ≡ delivered (graph_of self.old) task awaiter r }
-        ensures input { (awaiter : AnyAwaiter) → IsLeastAwaiter (graph_of self.old) task awaiter → result ≡ task_of awaiter }
         ensures runs { (q : ℕ) → IsRunnable (graph_of self.new) q → (result ≡ Some q) ⊎ IsRunnable (graph_of self.old) q }
+        ensures stays { (q : ℕ) → IsRunnable (graph_of self.old) q → IsRunnable (graph_of self.new) q }
+        ensures ready { (q : ℕ) → result ≡ Some q → IsRunnable (graph_of self.new) q }
         ensures size { IsSameSize self.old.entries self.new.entries }
     {
-        match self.awaiter(task) {
-            None => None,
-            Some(
-                Awaiter::Input {
-                    task: of,
-                    place,
-                    ..
-                },
-            ) => {
-                let place = place as u8;
-                self.settle(Spot { task: of, place }, r);
-                Some(of)
-            }
-            Some(Awaiter::Asked { .. }) => {
+        let kept = self.entries.look(task);
+        let caller = kept.caller;
+        match self.next_input(task, kept) {
+            None => {
                 self.unask(task);
                 None
             }
+            Some(spot) => self.settle_first(spot, r, caller),
         }
     }
 
@@ -150,8 +195,8 @@ impl<K: Copy> Parts<K> {
         ensures moved { IsMoved self.old self.new spot to }
         ensures size { IsSameSize self.old.entries self.new.entries }
     {
-        let link = self.settle(spot, Ref::Null);
-        self.join(spot, to, link.number);
+        let settled = self.settle(spot, Ref::Null);
+        self.join(spot, to, settled.0.number);
     }
 
     // All inputs that await one task await another.

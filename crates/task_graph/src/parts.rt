@@ -61,6 +61,25 @@ impl<K: Copy> Parts<K> {
         }
     }
 
+    // Between which two tasks of a caller a number stands. Where it is greater than all others it is found at once.
+    fn around(&self, caller: u32, task: u128) -> (Option<u128>, Option<u128>)
+        requires caller { caller < 64 }
+        requires ordered { IsOrdered (bounds_at (caller_at self.now.callers)) (station_at (entries_at self.now.entries)) }
+        requires new { entries_at self.now.entries task ≡ None }
+        ensures below { IsJustBelow (station_at (entries_at self.now.entries)) caller task result.0 }
+        ensures behind { IsBehind (bounds_at (caller_at self.now.callers)) (station_at (entries_at self.now.entries)) caller result.0 result.1 }
+    {
+        let row = self.callers.get(caller);
+        if let Some(last) = row.last {
+            if last < task {
+                return (Some(last), None);
+            }
+        }
+        let before = self.below(caller, task);
+        let after = self.behind(caller, before);
+        (before, after)
+    }
+
     // Writes what follows a task among those of a caller, or the first where none is given.
     fn lead_on(&mut self, caller: u32, before: Option<u128>, to: Option<u128>)
         requires caller { caller < 64 }
@@ -114,8 +133,9 @@ impl<K: Copy> Parts<K> {
         ensures len { hash_map_len self.new.entries.tasks ≡ hash_map_len self.old.entries.tasks + 1 }
         ensures room { room_of self.old.entries ≤ room_of self.new.entries + 1 }
     {
-        let before = self.below(entry.caller, task);
-        let after = self.behind(entry.caller, before);
+        let gap = self.around(entry.caller, task);
+        let before = gap.0;
+        let after = gap.1;
         let placed = Entry {
             before,
             after,

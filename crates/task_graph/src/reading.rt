@@ -1,7 +1,7 @@
 // What is read of tasks.
 ghost use Rattle.std.specs.Prelude.{◌≡◌, ◌<◌, ◌≤◌, ◌↔◌, ℕ, take, length, slice_get, option_map, Some, None, IsSome, IfSome, IsTrue};
 ghost use Rattle.task_states.specs.Awaiters.{IsLeastOf, IsLater, IsWanted};
-ghost use Rattle.task_states.specs.States.{caller_of};
+ghost use Rattle.task_states.specs.States.{caller_of, is_awaiting};
 ghost use Rattle.task_links.specs.Inside.{inputs_of, shown_place};
 ghost use Rattle.task_links.specs.Kept.{opened};
 ghost use Rattle.task_graph.specs.Contents.{input_of};
@@ -13,14 +13,33 @@ use crate::parts::Parts;
 use task_links::{Caller, Kept, Place};
 use task_states::Slot;
 
-// An input as callers give it.
-fn slot(place: &Place) -> Slot
+/// An input as callers give it.
+#[inline(always)]
+pub(crate) fn slot(place: &Place) -> Slot
     ensures { input_of result ≡ shown_place place.now }
 {
     match place {
         Place::Known(r) => Slot::Known(*r),
         Place::Awaits(link) => Slot::Awaits(link.task, link.number),
     }
+}
+
+// Whether an input awaits a task.
+#[inline(always)]
+fn awaits(slot: &Slot) -> bool
+    ensures { result ≡ is_awaiting (input_of slot.now) }
+{
+    match slot {
+        Slot::Known(_) => false,
+        Slot::Awaits(_, _) => true,
+    }
+}
+
+/// Whether one of these inputs awaits a task.
+pub(crate) fn any_awaits(slots: &[Slot]) -> bool
+    ensures { result ≡ list_any (λ slot. is_awaiting (input_of slot)) slots.now }
+{
+    slots.iter().any(|slot| awaits(slot))
 }
 
 /// The input of a task at a place, counted from 0, if there is one.

@@ -11,10 +11,13 @@ ghost use Rattle.task_states.specs.Steps.{started, given_back, with_asked, witho
 ghost use Rattle.task_links.specs.declared.entries.Entry.{Entry as AnyEntry};
 ghost use Rattle.task_graph.specs.Graphs.{graph_of, IsWhole};
 ghost use Rattle.task_states.specs.Awaiters.{IsRunnable};
+ghost use Rattle.task_graph.specs.Adding.{can_run_with};
+ghost use Rattle.task_graph.specs.Contents.{inputs_given};
 
 use crate::parts::Parts;
+use crate::reading::any_awaits;
 use task_links::Caller;
-use task_states::TaskStatus;
+use task_states::{Slot, TaskStatus};
 
 impl<K: Copy> Parts<K> {
     /// How far a task is.
@@ -44,6 +47,20 @@ impl<K: Copy> Parts<K> {
                     TaskStatus::Running => false,
                 }
             }
+        }
+    }
+
+    /// Whether a task of a caller that comes with these inputs can be run.
+    pub fn may_run(&self, caller: u32, inputs: &[Slot]) -> bool
+        requires whole { IsWhole self.now }
+        requires caller { caller < 64 }
+        ensures { result ≡ can_run_with (graph_of self.now) caller (inputs_given inputs.now) }
+    {
+        let row = self.callers.get(caller);
+        if row.stopped {
+            false
+        } else {
+            !any_awaits(inputs)
         }
     }
 

@@ -7,9 +7,11 @@ ghost use Rattle.task_states.specs.Awaiters.{IsFree, IsNotAwaited, IsAwaiterFoun
 ghost use Rattle.task_states.specs.Listing.{awaiters};
 ghost use Rattle.task_states.specs.Steps.{added, with_asked, started, given_back, delivered, forwarded, removed, with_stopped, abandoned};
 ghost use Rattle.task_graph.specs.Contents.{inputs_given, input_of, AreOf, AreFree, AreOfOneCaller, IsAskedOnce};
+ghost use Rattle.task_graph.specs.Rows.{unfinished_in};
 
 use crate::held::Held;
 use crate::reading::input;
+use crate::rows::TaskRow;
 use cht_ids::{Memory, Ref, TaskNo};
 use std::alloc::Global;
 use std::marker::Model;
@@ -210,6 +212,14 @@ impl<K: Copy> Tasks<K> {
     {
         let kept = self.held.parts.entries.look(task);
         input(kept, place)
+    }
+
+    /// What is known of a task, found at once; `None` exactly where there is no such unfinished task.
+    pub fn row(&self, task: TaskNo) -> Option<TaskRow<K>>
+        ensures row { option_map unfinished_in result ≡ task_at self.now.graph task }
+        ensures few { IfSome result (λ row. row.count ≤ 4) }
+    {
+        self.held.parts.row(task)
     }
 
     /// The least unfinished task of a caller; `None` exactly where it has none. It is found at once.

@@ -5,7 +5,8 @@ ghost use Rattle.std.specs.Option.{option_map};
 ghost use Rattle.std.specs.List.{list_any};
 ghost use Rattle.task_states.specs.States.{is_awaiting, status_of};
 ghost use Rattle.task_links.specs.declared.entries.Spot.{Spot as AnySpot};
-ghost use Rattle.task_links.specs.Inside.{entries_at, put_in, room_of, IsSameSize, shown_place, place_at, is_spot, with_input, shown_at, station_at, caller_in, with_runner_at, with_asked_at, with_place_at, with_follower_at, with_leader_at};
+ghost use Rattle.task_links.specs.declared.entries.Entry.{Entry as AnyEntry};
+ghost use Rattle.task_links.specs.Inside.{entries_at, put_in, room_of, IsSameSize, shown_place, place_at, is_spot, with_input, shown_at, shown_entry, station_at, caller_in, with_runner_at, with_asked_at, with_place_at, with_follower_at, with_leader_at};
 ghost use Rattle.task_links.specs.Kept.{opened, opened_place, joined_if};
 ghost use Rattle.task_links.specs.Weave.{head_at, link_at, with_next, with_joined, with_passed, with_joined_at, with_passed_at, IsBeside, count_of};
 ghost use Rattle.task_links.specs.Order.{with_after_at, with_before_at};
@@ -90,6 +91,20 @@ impl<K: Copy> Entries<K> {
         kept.swap_place(spot.place, place)
     }
 
+    // Writes the input at a place. Answers the one that was there, and whether the task awaits another then.
+    #[inline(always)]
+    fn swap_watched(&mut self, spot: Spot, place: KeptPlace) -> (KeptPlace, bool)
+        requires there { IsSome (place_at (entries_at self.old) spot) }
+        requires short { (entry : AnyEntry K) → entries_at self.old spot.task ≡ Some entry → entry.count ≤ 4 }
+        ensures was { place_at (entries_at self.old) spot ≡ Some (opened_place result.0) }
+        ensures at { (q : ℕ) → entries_at self.new q ≡ option_map (with_place_at q spot (opened_place place)) (entries_at self.old q) }
+        ensures waits { option_map (λ entry. list_any is_awaiting (shown_entry entry).inputs) (entries_at self.new spot.task) ≡ Some result.1 }
+        ensures size { IsSameSize self.old self.new }
+    {
+        let kept = self.tasks.get_mut(&spot.task).unwrap();
+        kept.swap_watched(spot.place, place)
+    }
+
     // Writes the ends of a task's list that an input joined between two others.
     #[inline(always)]
     fn write_joined(&mut self, task: u128, before: Option<Spot>, spot: Spot, next: Option<Spot>)
@@ -146,6 +161,25 @@ impl<K: Copy> Entries<K> {
     {
         let was = self.swap_place(spot, kept_place(place));
         link_in(was)
+    }
+
+    /// Writes the input at a place. Answers the link of the one that was there, if it awaited a task, and whether the task awaits
+    /// another then.
+    #[inline(always)]
+    pub fn set_watched(&mut self, spot: Spot, place: Place) -> (Option<Link>, bool)
+        requires there { IsSome (place_at (entries_at self.old) spot) }
+        requires short { (entry : AnyEntry K) → entries_at self.old spot.task ≡ Some entry → entry.count ≤ 4 }
+        ensures link { result.0 ≡ link_at (entries_at self.old) spot }
+        ensures places { (p : AnySpot) → place_at (entries_at self.new) p ≡ cond (is_spot p spot) (Some place) (place_at (entries_at self.old) p) }
+        ensures heads { (q : ℕ) → head_at (entries_at self.new) q ≡ head_at (entries_at self.old) q }
+        ensures shown { (q : ℕ) → shown_at (entries_at self.new) q ≡ option_map (with_input q spot (shown_place place)) (shown_at (entries_at self.old) q) }
+        ensures waits { option_map (λ entry. list_any is_awaiting (shown_entry entry).inputs) (entries_at self.new spot.task) ≡ Some result.1 }
+        ensures stations { (q : ℕ) → station_at (entries_at self.new) q ≡ station_at (entries_at self.old) q }
+        ensures counts { (q : ℕ) → option_map count_of (entries_at self.new q) ≡ option_map count_of (entries_at self.old q) }
+        ensures size { IsSameSize self.old self.new }
+    {
+        let was = self.swap_watched(spot, kept_place(place));
+        (link_in(was.0), was.1)
     }
 
     /// Writes the next one of an awaiting input.

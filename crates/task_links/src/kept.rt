@@ -401,6 +401,14 @@ impl<K: Copy> Kept<K> {
         }
     }
 
+    /// The inputs at all four places, of which the first `count` are the task's.
+    #[inline(always)]
+    pub fn open_places(&self) -> [Place; 4]
+        ensures { result ≡ (opened self.now).places }
+    {
+        places(&self.places)
+    }
+
     // The input at a place, as it is kept.
     #[inline(always)]
     pub(crate) fn place(&self, place: u8) -> KeptPlace
@@ -429,6 +437,20 @@ impl<K: Copy> Kept<K> {
         let was = self.place(place);
         self.set_place(place, kept);
         was
+    }
+
+    // Writes the input at a place. Answers the one that was there, and whether the task awaits another then.
+    #[inline(always)]
+    pub(crate) fn swap_watched(&mut self, place: u8, kept: KeptPlace) -> (KeptPlace, bool)
+        requires there { IsSome (slice_get (inputs_of (opened self.old)) place) }
+        requires short { self.old.count ≤ 4 }
+        ensures was { slice_get (inputs_of (opened self.old)) place ≡ Some (opened_place result.0) }
+        ensures written { opened self.new ≡ record (opened self.old) { places = set (opened self.old).places place (opened_place kept) } }
+        ensures waits { result.1 ≡ list_any is_awaiting (shown_entry (opened self.new)).inputs }
+    {
+        let was = self.swap_place(place, kept);
+        let waits = self.is_waiting();
+        (was, waits)
     }
 
     // Writes the ends of the task's list that an input joined between two others.

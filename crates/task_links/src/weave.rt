@@ -1,7 +1,9 @@
 // The list of the inputs that await a task: how one joins it, and how its first leaves it.
-ghost use Rattle.std.specs.Prelude.{◌≡◌, ℕ, Option, Some, None, IsSome};
+ghost use Rattle.std.specs.Prelude.{◌≡◌, ◌≤◌, ℕ, Option, Some, None, IsSome};
 ghost use Rattle.std.specs.Option.{option_map};
-ghost use Rattle.task_states.specs.States.{Known as KnownInput, Awaits as AwaitsTask};
+ghost use Rattle.std.specs.List.{list_any};
+ghost use Rattle.task_states.specs.States.{Known as KnownInput, Awaits as AwaitsTask, is_awaiting};
+ghost use Rattle.task_links.specs.declared.entries.Entry.{Entry as AnyEntry};
 ghost use Rattle.task_links.specs.declared.entries.Spot.{Spot as AnySpot};
 ghost use Rattle.task_links.specs.declared.entries.Place.TheVariants.{Awaits as AwaitsPlace};
 ghost use Rattle.task_links.specs.Inside.{entries_at, IsSameSize, shown_place, place_at, with_input, shown_at, station_at};
@@ -101,22 +103,25 @@ impl<K: Copy> Entries<K> {
         self.tie(spot, Link { task, number, next }, before);
     }
 
-    /// The first input that awaits a task gets a reference, and awaits no more. Answers what it awaited.
-    pub fn settle(&mut self, spot: Spot, r: Ref) -> Link
+    /// The first input that awaits a task gets a reference, and awaits no more. Answers what it awaited, and whether another
+    /// input of its task awaits a task.
+    pub fn settle(&mut self, spot: Spot, r: Ref) -> (Link, bool)
         requires woven { IsWoven (head_at (entries_at self.old)) (link_at (entries_at self.old)) }
         requires first { IsFirst (head_at (entries_at self.old)) (link_at (entries_at self.old)) spot }
-        ensures link { link_at (entries_at self.old) spot ≡ Some result }
+        requires short { (entry : AnyEntry K) → entries_at self.old spot.task ≡ Some entry → entry.count ≤ 4 }
+        ensures link { link_at (entries_at self.old) spot ≡ Some result.0 }
+        ensures waits { option_map (λ unfinished. list_any is_awaiting unfinished.inputs) (shown_at (entries_at self.new) spot.task) ≡ Some result.1 }
         ensures woven { IsWoven (head_at (entries_at self.new)) (link_at (entries_at self.new)) }
-        ensures untied { IsUntied (head_at (entries_at self.old)) (head_at (entries_at self.new)) (link_at (entries_at self.old)) (link_at (entries_at self.new)) spot result }
+        ensures untied { IsUntied (head_at (entries_at self.old)) (head_at (entries_at self.new)) (link_at (entries_at self.old)) (link_at (entries_at self.new)) spot result.0 }
         ensures shown { (q : ℕ) → shown_at (entries_at self.new) q ≡ option_map (with_input q spot (KnownInput r)) (shown_at (entries_at self.old) q) }
         ensures stations { (q : ℕ) → station_at (entries_at self.new) q ≡ station_at (entries_at self.old) q }
         ensures there { IsSome (place_at (entries_at self.new) spot) }
         ensures counts { (q : ℕ) → option_map count_of (entries_at self.new q) ≡ option_map count_of (entries_at self.old q) }
         ensures size { IsSameSize self.old self.new }
     {
-        let was = self.set_place(spot, Place::Known(r));
-        let link = was.unwrap();
+        let was = self.set_watched(spot, Place::Known(r));
+        let link = was.0.unwrap();
         self.pass_first(link.task, link.next);
-        link
+        (link, was.1)
     }
 }

@@ -1,43 +1,35 @@
-use Rattle.std.proofs.Common.{◌≡◌, ap, sym, subst, ◌∙◌, refl, inl, inr, Some, None, set}
-use Rattle.task_states.specs.States.{Known}
+use Rattle.std.proofs.Common.{None, sym, subst, refl, inr, ◌∙◌}
 use Rattle.task_states.specs.Awaiters.{IsRunnable}
-use Rattle.task_states.specs.Awaiters.{task_of}
-use Rattle.task_states.specs.Steps.{delivered}
-use Rattle.task_states.proofs.Runnables.{runs_changed, runs_same}
+use Rattle.task_states.proofs.Runnables.{runs_same}
+use Rattle.task_links.specs.Kept.{opened}
 use Rattle.task_graph.specs.Graphs.{graph_of}
-use Rattle.task_graph.proofs.Awaiting.{one_least}
-use Rattle.task_graph.proofs.Marking.{some_entry}
+use Rattle.task_graph.proofs.FirstInputs.{delivered_at, delivered_asked}
+use Rattle.task_graph.proofs.Marking.{entry_of}
+use Rattle.task_graph.proofs.Runs.{caller_low}
+use Rattle.task_graph.proofs.Staying.{stays_known, stays_unasked}
 use Rattle.task_graph.proofs.parts.Parts.deliver.Goals as goal
 
-pub returns-in-Some-Input-clause-graph : goal.returns-in-Some-Input-clause-graph
-returns-in-Some-Input-clause-graph g c = λ awaiter is.
-    let e = some_entry c.args.self.now c.args.task c.requires.there in
-    subst (λ a. graph_of c.settle.new.self ≡ delivered (graph_of c.args.self.now) c.args.task a c.args.r)
-    (sym c.in-Some-Input.field-0-is ∙ one_least c.args.self.now c.args.task e.0 c.requires.whole e.1 c.in-Some-Input.field-0 awaiter c.in-Some-Input.ensures.least is) c.settle.ensures.graph
+pub look-kept-requires : goal.look-kept-requires
+look-kept-requires g c = entry_of c.args.self.now c.args.task c.requires.there
 
-pub returns-in-Some-Input-clause-input : goal.returns-in-Some-Input-clause-input
-returns-in-Some-Input-clause-input g c = λ awaiter is.
-    let e = some_entry c.args.self.now c.args.task c.requires.there in
-    ap task_of (sym c.in-Some-Input.field-0-is ∙ one_least c.args.self.now c.args.task e.0 c.requires.whole e.1 c.in-Some-Input.field-0 awaiter c.in-Some-Input.ensures.least is)
+pub settle_first-requires-clause-low : goal.settle_first-requires-clause-low
+settle_first-requires-clause-low g c = caller_low c.args.self.now c.requires.whole c.args.task (opened c.look-kept.result.now) c.look-kept.ensures
 
-pub returns-in-Some-Asked-clause-graph : goal.returns-in-Some-Asked-clause-graph
-returns-in-Some-Asked-clause-graph g c = λ awaiter is.
-    let e = some_entry c.args.self.now c.args.task c.requires.there in
-    subst (λ a. graph_of c.unask.new.self ≡ delivered (graph_of c.args.self.now) c.args.task a c.args.r)
-    (sym c.in-Some-Asked.field-0-is ∙ one_least c.args.self.now c.args.task e.0 c.requires.whole e.1 c.in-Some-Asked.field-0 awaiter c.in-Some-Asked.ensures.least is) c.unask.ensures.graph
+pub returns-in-None-clause-graph : goal.returns-in-None-clause-graph
+returns-in-None-clause-graph g c = λ awaiter least. c.unask.ensures.graph ∙ delivered_asked (graph_of c.args.self.now) c.args.task c.args.r awaiter (c.in-None.ensures.input awaiter least)
 
-pub returns-in-Some-Asked-clause-input : goal.returns-in-Some-Asked-clause-input
-returns-in-Some-Asked-clause-input g c = λ awaiter is.
-    let e = some_entry c.args.self.now c.args.task c.requires.there in
-    ap task_of (sym c.in-Some-Asked.field-0-is ∙ one_least c.args.self.now c.args.task e.0 c.requires.whole e.1 c.in-Some-Asked.field-0 awaiter c.in-Some-Asked.ensures.least is)
+pub returns-in-Some-clause-graph : goal.returns-in-Some-clause-graph
+returns-in-Some-clause-graph g c =
+    λ awaiter least. c.settle_first.ensures.graph ∙ delivered_at (graph_of c.args.self.now) c.args.task c.in-Some.spot c.args.r awaiter (c.in-Some.ensures.input awaiter least)
 
-pub returns-in-Some-Input-clause-runs : goal.returns-in-Some-Input-clause-runs
-returns-in-Some-Input-clause-runs g c = λ q runs.
-    elim (runs_changed (graph_of c.args.self.now) c.in-Some-Input.of q (λ u. record u { inputs = set u.inputs c.in-Some-Input.place (Known c.args.r) }) (subst (λ graph. IsRunnable graph q) c.settle.ensures.graph runs)) [
-      | inl same ↦ inl (ap Some (sym same))
-      | inr before ↦ inr before
-    ]
-
-pub returns-in-Some-Asked-clause-runs : goal.returns-in-Some-Asked-clause-runs
-returns-in-Some-Asked-clause-runs g c = λ q runs.
+pub returns-in-None-clause-runs : goal.returns-in-None-clause-runs
+returns-in-None-clause-runs g c = λ q runs.
     inr (runs_same (graph_of c.args.self.now) c.args.task q (λ u. record u { asked = None }) (λ u. (refl, refl)) (subst (λ graph. IsRunnable graph q) c.unask.ensures.graph runs))
+
+pub returns-in-None-clause-stays : goal.returns-in-None-clause-stays
+returns-in-None-clause-stays g c =
+    λ q runs. subst (λ graph. IsRunnable graph q) (sym c.unask.ensures.graph) (stays_unasked (graph_of c.args.self.now) c.args.task q runs)
+
+pub returns-in-Some-clause-stays : goal.returns-in-Some-clause-stays
+returns-in-Some-clause-stays g c =
+    λ q runs. subst (λ graph. IsRunnable graph q) (sym c.settle_first.ensures.graph) (stays_known (graph_of c.args.self.now) c.in-Some.spot.task q c.in-Some.spot.place c.args.r runs)

@@ -8,30 +8,30 @@ use Rattle.task_graph.proofs.Moves.{written_twice}
 use Rattle.task_graph.proofs.parts.Parts.move_first.Goals as goal
 
 pub join-requires-clause-there : goal.join-requires-clause-there
-join-requires-clause-there g c = c.settle-link.ensures.there
+join-requires-clause-there g c = c.settle-settled.ensures.there
 
 pub join-requires-clause-home : goal.join-requires-clause-home
 join-requires-clause-home g c =
-    let home = c.requires.whole.woven.home c.args.spot c.settle-link.result c.settle-link.ensures.link in
+    let home = c.requires.whole.woven.home c.args.spot c.settle-settled.result.0 c.settle-settled.ensures.link in
     let other = c.requires.movable.other in
-    let own_new = c.settle-link.ensures.untied.heads_to c.args.spot.task home.0 home.2 in
-    let other_new = c.settle-link.ensures.untied.heads_to c.args.to other.0 other.1 in
+    let own_new = c.settle-settled.ensures.untied.heads_to c.args.spot.task home.0 home.2 in
+    let other_new = c.settle-settled.ensures.untied.heads_to c.args.to other.0 other.1 in
     (own_new.0, other_new.0, own_new.1, other_new.1, other_new.2 ∙ c.requires.movable.there home.0 other.0 home.2 other.1 ∙ sym own_new.2, own_new.3 ∙ home.5)
 
 pub join-requires-clause-unasked : goal.join-requires-clause-unasked
 join-requires-clause-unasked g c = λ task head asked is at same.
-    let h = c.settle-link.ensures.untied.heads_from task head is in
-    c.requires.whole.woven.asked_apart c.args.spot c.settle-link.result task h.0 asked c.settle-link.ensures.link h.1 (sym h.4 ∙ at) (sym same)
+    let h = c.settle-settled.ensures.untied.heads_from task head is in
+    c.requires.whole.woven.asked_apart c.args.spot c.settle-settled.result.0 task h.0 asked c.settle-settled.ensures.link h.1 (sym h.4 ∙ at) (sym same)
 
 pub returns-clause-moved : goal.returns-clause-moved
 returns-clause-moved g c =
     let tied = c.join.ensures.tied in
-    let writes = written_twice (graph_of c.args.self.now) (graph_of c.settle-link.new.self) (graph_of c.join.new.self) c.args.spot.task c.args.spot.place (Known Null) (Awaits c.args.to c.settle-link.result.number) c.settle-link.ensures.graph c.join.ensures.graph in
+    let writes = written_twice (graph_of c.args.self.now) (graph_of c.settle-settled.new.self) (graph_of c.join.new.self) c.args.spot.task c.args.spot.place (Known Null) (Awaits c.args.to c.settle-settled.result.0.number) c.settle-settled.ensures.graph c.join.ensures.graph in
     record {
-      link = c.settle-link.result;
-      was = c.settle-link.ensures.link;
-      here = (record { task = c.args.to; number = c.settle-link.result.number; next = tied.1 }, tied.2.here, refl);
-      rest = λ other apart. tied.2.rows other apart ∙ ap (option_map {U = ℕ × ℕ} (λ (l : Link). (l.task, l.number))) (c.settle-link.ensures.untied.rest other apart);
+      link = c.settle-settled.result.0;
+      was = c.settle-settled.ensures.link;
+      here = (record { task = c.args.to; number = c.settle-settled.result.0.number; next = tied.1 }, tied.2.here, refl);
+      rest = λ other apart. tied.2.rows other apart ∙ ap (option_map {U = ℕ × ℕ} (λ (l : Link). (l.task, l.number))) (c.settle-settled.ensures.untied.rest other apart);
       stopped = writes.0;
       tasks = writes.1;
       own = writes.2;

@@ -10,13 +10,13 @@ use Rattle.task_links.proofs.Orders.{placed-ordered}
 use Rattle.task_links.proofs.Splicing.{spliced, here_as, room_made, home_made, before_apart, after_there}
 use Rattle.task_graph.proofs.parts.Parts.place.Goals as goal
 
-room : (g : _) (c : goal.After-lead_back g) → IsRoom (bounds_at (caller_at c.args.self.now.callers)) (station_at (entries_at c.args.self.now.entries)) c.args.entry.caller c.args.task c.below-before.result c.behind-after.result
-room g c = room_made _ _ _ _ c.requires.ordered c.below-before.result c.behind-after.result c.below-before.ensures c.behind-after.ensures
+room : (g : _) (c : goal.After-lead_back g) → IsRoom (bounds_at (caller_at c.args.self.now.callers)) (station_at (entries_at c.args.self.now.entries)) c.args.entry.caller c.args.task c.around-gap.result.0 c.around-gap.result.1
+room g c = room_made _ _ _ _ c.requires.ordered c.around-gap.result.0 c.around-gap.result.1 c.around-gap.ensures.below c.around-gap.ensures.behind
 
 pub returns-clause-beside : goal.returns-clause-beside
 returns-clause-beside g c = (
   entries_at c.insert.new.self,
-  (c.below-before.result, c.behind-after.result, c.insert.ensures.at),
+  (c.around-gap.result.0, c.around-gap.result.1, c.insert.ensures.at),
   besides (entries_at c.insert.new.self) (entries_at c.lead_on.new.self.entries) (entries_at c.lead_back.new.self.entries) c.lead_on.ensures.beside c.lead_back.ensures.beside,
 )
 
@@ -26,15 +26,15 @@ returns-clause-ordered g c =
     let bounds = bounds_at (caller_at c.args.self.now.callers) in
     let middle = station_at (entries_at c.insert.new.self) in
     let rest = λ (q : ℕ) (apart : q ≡ c.args.task → ⊥). ap (option_map station_of) (other_put (entries_at c.args.self.now.entries) (entries_at c.insert.new.self) c.args.task _ c.insert.ensures.at q apart) in
-    let made = λ (q : ℕ). c.lead_back.ensures.stations q ∙ ap (option_map (with_before_at q c.behind-after.result (Some c.args.task))) (c.lead_on.ensures.stations q) in
-    let bound = λ (q : ℕ). c.lead_back.ensures.bounds q ∙ ap (option_map (with_last_at q c.args.entry.caller c.behind-after.result (Some c.args.task))) (c.lead_on.ensures.bounds q) in
+    let made = λ (q : ℕ). c.lead_back.ensures.stations q ∙ ap (option_map (with_before_at q c.around-gap.result.1 (Some c.args.task))) (c.lead_on.ensures.stations q) in
+    let bound = λ (q : ℕ). c.lead_back.ensures.bounds q ∙ ap (option_map (with_last_at q c.args.entry.caller c.around-gap.result.1 (Some c.args.task))) (c.lead_on.ensures.bounds q) in
     let fresh : old c.args.task ≡ None = ap (option_map station_of) c.requires.new in
     let free = room g c in
-    placed-ordered bounds (bounds_at (caller_at c.lead_back.new.self.callers)) old (station_at (entries_at c.lead_back.new.self.entries)) c.args.task c.args.entry.caller c.below-before.result c.behind-after.result
-    c.requires.ordered fresh free (home_made bounds old c.args.entry.caller c.args.task c.requires.ordered c.below-before.result c.behind-after.result free)
-    (here_as bounds (bounds_at (caller_at c.lead_back.new.self.callers)) old middle (station_at (entries_at c.lead_back.new.self.entries)) c.args.task c.args.entry.caller c.below-before.result c.behind-after.result (Some c.args.task) (Some c.args.task) rest made bound
-    (before_apart bounds old c.args.entry.caller c.args.task c.requires.ordered c.below-before.result c.behind-after.result free fresh)
-    (λ is. let there = after_there bounds old c.args.entry.caller c.args.task c.requires.ordered c.below-before.result c.behind-after.result free c.args.task is in not_none (old c.args.task) there.0 fresh there.1)
+    placed-ordered bounds (bounds_at (caller_at c.lead_back.new.self.callers)) old (station_at (entries_at c.lead_back.new.self.entries)) c.args.task c.args.entry.caller c.around-gap.result.0 c.around-gap.result.1
+    c.requires.ordered fresh free (home_made bounds old c.args.entry.caller c.args.task c.requires.ordered c.around-gap.result.0 c.around-gap.result.1 free)
+    (here_as bounds (bounds_at (caller_at c.lead_back.new.self.callers)) old middle (station_at (entries_at c.lead_back.new.self.entries)) c.args.task c.args.entry.caller c.around-gap.result.0 c.around-gap.result.1 (Some c.args.task) (Some c.args.task) rest made bound
+    (before_apart bounds old c.args.entry.caller c.args.task c.requires.ordered c.around-gap.result.0 c.around-gap.result.1 free fresh)
+    (λ is. let there = after_there bounds old c.args.entry.caller c.args.task c.requires.ordered c.around-gap.result.0 c.around-gap.result.1 free c.args.task is in not_none (old c.args.task) there.0 fresh there.1)
     _
     (ap (option_map station_of) (here_put (entries_at c.args.self.now.entries) (entries_at c.insert.new.self) c.args.task _ c.insert.ensures.at (test_same c.args.task))))
-    (spliced bounds (bounds_at (caller_at c.lead_back.new.self.callers)) old middle (station_at (entries_at c.lead_back.new.self.entries)) c.args.task c.args.entry.caller c.below-before.result c.behind-after.result (Some c.args.task) (Some c.args.task) rest made bound)
+    (spliced bounds (bounds_at (caller_at c.lead_back.new.self.callers)) old middle (station_at (entries_at c.lead_back.new.self.entries)) c.args.task c.args.entry.caller c.around-gap.result.0 c.around-gap.result.1 (Some c.args.task) (Some c.args.task) rest made bound)

@@ -13,7 +13,7 @@ use Rattle.task_links.proofs.entries.Entries.settle.Goals as goal
 
 -- the link that goes
 gone : (g : _) (c : goal.After-pass_first g) → link_at (entries_at c.args.self.now) c.args.spot ≡ Some c.unwrap-link.result
-gone g c = sym c.set_place-was.ensures.link ∙ c.unwrap-link.ensures
+gone g c = sym c.set_watched-was.ensures.link ∙ c.unwrap-link.ensures
 
 -- the head of the list, before
 own : (g : _) (c : goal.After-pass_first g) → head_at (entries_at c.args.self.now) c.unwrap-link.result.task ≡ Some c.requires.first.1
@@ -25,9 +25,9 @@ made : (g : _) (c : goal.After-pass_first g) → IsUntied (head_at (entries_at c
 made g c =
     untied (head_at (entries_at c.args.self.now)) (head_at (entries_at c.pass_first.new.self)) (link_at (entries_at c.args.self.now)) (link_at (entries_at c.pass_first.new.self)) c.args.spot c.unwrap-link.result c.requires.first.1
     (gone g c) (own g c) c.requires.first.4
-    (λ p. c.pass_first.ensures.links p ∙ link_placed (entries_at c.args.self.now) (entries_at c.set_place-was.new.self) c.args.spot (Known c.args.r) c.set_place-was.ensures.places p)
+    (λ p. c.pass_first.ensures.links p ∙ link_placed (entries_at c.args.self.now) (entries_at c.set_watched-was.new.self) c.args.spot (Known c.args.r) c.set_watched-was.ensures.places p)
     (passed_as (head_at (entries_at c.args.self.now)) (head_at (entries_at c.pass_first.new.self)) c.unwrap-link.result.task c.requires.first.1 c.unwrap-link.result.next (own g c)
-    (λ q. c.pass_first.ensures.heads q ∙ ap (option_map (with_passed q c.unwrap-link.result.task c.unwrap-link.result.next)) (c.set_place-was.ensures.heads q)))
+    (λ q. c.pass_first.ensures.heads q ∙ ap (option_map (with_passed q c.unwrap-link.result.task c.unwrap-link.result.next)) (c.set_watched-was.ensures.heads q)))
 
 pub returns-clause-untied : goal.returns-clause-untied
 returns-clause-untied g c = made g c
@@ -40,4 +40,4 @@ returns-clause-woven g c =
 pub returns-clause-there : goal.returns-clause-there
 returns-clause-there g c =
     some_is (place_at (entries_at c.pass_first.new.self) c.args.spot) (Known c.args.r)
-    (c.pass_first.ensures.places c.args.spot ∙ c.set_place-was.ensures.places c.args.spot ∙ ap (λ b. cond b (Some (Known c.args.r)) (place_at (entries_at c.args.self.now) c.args.spot)) (spot_same c.args.spot))
+    (c.pass_first.ensures.places c.args.spot ∙ c.set_watched-was.ensures.places c.args.spot ∙ ap (λ b. cond b (Some (Known c.args.r)) (place_at (entries_at c.args.self.now) c.args.spot)) (spot_same c.args.spot))
