@@ -1,9 +1,9 @@
 -- What is found along a path of children.
-use Rattle.std.proofs.Common.{◌≡◌, ℕ, true, zero, suc, ◌<◌, ◌≤◌, List, [], ◌∷◌, map as each, length, slice_get, None, Some, is_some, refl, sym, ap, subst, ◌∙◌, arith}
+use Rattle.std.proofs.Common.{◌≡◌, ℕ, zero, suc, ◌<◌, ◌≤◌, List, [], ◌∷◌, map as each, length, slice_get, None, Some, is_some, refl, sym, ap, subst, ◌∙◌, arith}
 use Rattle.cht_ids.specs.declared.refs.Id.{Id}
 use Rattle.cht_ids.specs.declared.refs.Ref.{Ref}
 use Rattle.cht_ids.specs.declared.refs.Ref.TheVariants.{Null as NullRef, Id as Held}
-use Rattle.task_types.specs.Tree.{Tree, Nothing, is_there, tree_at, child, rooted}
+use Rattle.task_types.specs.Tree.{Tree, Nothing, tree_at, child, rooted}
 use Rattle.task_types.specs.Meanings.{Meanings}
 use Rattle.name_states.specs.States.{NameState, IdRecord, BodyRecord, body_at, record_of, body_named, children_in, children_of, IsLive, IsLiveRef}
 use Rattle.name_states.specs.Rules.{IsSound}
@@ -74,12 +74,6 @@ module _ {C : Type 0} (arity : C → ℕ) (names : NameState C) (sound : IsSound
   child_is_live id j r live at =
       let it = named_body id live in
       live_child it.0.body it.1 j r it.3 (ap (λ refs. slice_get refs j) (sym (children_are id it.0 it.1 it.2 it.3)) ∙ at)
-
-  -- the tree of a live identifier is there
-  pub live_there : (id : Id) → IsLive names id → true ≡ is_there (tree_of names (Held id))
-  live_there id live =
-      let it = named_body id live in
-      sym (ap (λ o. is_there (trees.tree_named (body_tree names) o)) it.2 ∙ ap (λ o. is_there (trees.grown (trees.tree_within it.0.body names) names o)) it.3)
 
   pub child_found : (id : Id) (content : C) (j : ℕ) (r : Ref) → tree_of names (Held id) ≡ rooted content (each (tree_of names) (children_of names id)) → j < 4
       → slice_get (children_of names id) j ≡ Some r → tree_of names r ≡ child (tree_of names (Held id)) j

@@ -5,32 +5,24 @@ use Rattle.std.specs.Option.{option_map, is_some}
 use Rattle.cht_ids.specs.declared.refs.Ref.{Ref}
 use Rattle.task_types.specs.Tree.{Tree, Nothing, Root, tree_at}
 use Rattle.task_types.specs.Shown.{view_of}
-use Rattle.task_types.specs.Meanings.{Meanings}
-use Rattle.task_types.specs.Sound.{HasFewInputs}
-use Rattle.name_states.specs.States.{NameState, IsLiveRef}
+use Rattle.name_states.specs.States.{NameState}
 use Rattle.name_states.specs.declared.holder.Holder.TheVariants.{Task}
-use Rattle.task_states.specs.States.{Input, Known, Unfinished, task_at, input_at}
+use Rattle.task_states.specs.States.{Input, Unfinished, task_at}
 use Rattle.task_states.specs.declared.states.Slot.{Slot}
+use Rattle.task_graph.specs.declared.rows.TaskRow.{TaskRow}
 use Rattle.task_graph.specs.Contents.{input_of}
+use Rattle.task_graph.specs.Rows.{unfinished_in}
+use Rattle.name_machine.specs.Control.{Control}
 use Rattle.name_machine.specs.Steps.{tree_known, input_trees}
-use Rattle.name_machine.specs.Goals.{read_input, goal_of}
-use Rattle.name_machine.specs.Facts.{HoldsTogether}
-use Rattle.name_machine.specs.Standing.{input_shown, IsOrderly}
+use Rattle.name_machine.specs.Standing.{input_shown, task_shown, IsOrderly}
 use Rattle.name_machine.proofs.Ends.{inputs_at}
 use Rattle.name_machine.proofs.Orderly.{ref_is_live}
-use Rattle.core_state.specs.Contents.{Contents}
-use Rattle.cht_core.specs.Events.{state}
-use Rattle.cht_core.specs.Granted.{count_there, IsOwn, view_granted, own_of, IsGrantedOwn}
+use Rattle.cht_core.specs.Granted.{count_there, IsOwn, view_granted, own_of, tree_in, AreLiveInputs, IsGrantedOwn}
 use Rattle.cht_core.specs.declared.grants.Grant.{Grant}
 use Rattle.cht_core.specs.declared.grants.Grants.{Grants}
-use Rattle.cht_core.proofs.FinishAllowed.{there_from}
 
 module _ {C : Type 0} where
-  -- the tree of an input that is there
-  abbrev pub tree_in : NameState C → Option (Input Ref) → Tree C
-  tree_in names None = Nothing
-  tree_in names (Some input) = tree_known (input_shown names input)
-
+  -- the trees of inputs at a place
   trees_in : (names : NameState C) (inputs : List (Input Ref)) (place : ℕ)
       → tree_at (each tree_known (each (input_shown names) inputs)) place ≡ tree_in names (slice_get inputs place)
   trees_in names [] place = refl
@@ -80,46 +72,33 @@ there_below [] place = grind arith
 there_below (x ∷ xs) zero = grind arith
 there_below (x ∷ xs) (suc place) = there_below xs place ∙ grind arith
 
-slot_there : (o : Option Slot) (i : Option (Input Ref)) → option_map input_of o ≡ i → is_some o ≡ is_some i
-slot_there None i is = ap is_some is
-slot_there (Some slot) i is = ap is_some is
+-- there is an input at a place below how many there are
+pub slot_there : (inputs : List (Input Ref)) (place : ℕ) (o : Option Slot) → option_map input_of o ≡ slice_get inputs place → is_some o ≡ nat_lt place (length inputs)
+slot_there inputs place None is = ap is_some is ∙ there_below inputs place
+slot_there inputs place (Some slot) is = ap is_some is ∙ there_below inputs place
 
-module _ {C K : Type 0} (lib : Meanings C K) (arity : C → ℕ) (before now : Contents C K) (view : before ≡ now) where
-  there_before : (task : ℕ) (t : Unfinished (Tree C) K) → task_at (state lib now).graph task ≡ Some t → task_at (state lib before).graph task ≡ Some t
-  there_before task t there = ap (λ (core : Contents C K). task_at (state lib core).graph task) view ∙ there
+-- what is granted of an input is what is granted of its tree
+pub own_at : {C : Type 0} (names : NameState C) (inputs : List (Input Ref)) (place : ℕ) (o : Option (Input Ref)) → o ≡ slice_get inputs place
+    → own_of (tree_in names o) ≡ own_of (tree_at (each tree_known (each (input_shown names) inputs)) place)
+own_at names inputs place o is = ap (λ input. own_of (tree_in names input)) is ∙ sym (ap own_of (trees_in names inputs place))
 
-  -- the tree of an input, and whether there is such an input
-  pub input_tree : (task place : ℕ) (t : Unfinished (Tree C) K) → task_at (state lib now).graph task ≡ Some t
-      → (input : Option (Input Ref)) → input ≡ input_at before.control.graph task place → tree_at (input_trees t) place ≡ tree_in now.control.names input
-  input_tree task place t there input is =
-      let u = there_from lib arity before.control task t (there_before task t there) in
-      ap (λ (t : Unfinished (Tree C) K). tree_at (input_trees t) place) u.2
-      ∙ trees_in before.control.names u.0.inputs place
-      ∙ ap (tree_in before.control.names) (sym (is ∙ inputs_at before.control.graph task place u.0 u.1))
-      ∙ ap (λ (core : Contents C K). tree_in core.control.names input) view
+few_taken : {X : Type 0} (count : ℕ) (xs : List X) → length (take count xs) ≤ count
+few_taken zero xs = omega arith
+few_taken (suc count) [] = omega arith
+few_taken (suc count) (x ∷ xs) = omega (arith, few_taken count xs)
 
-  pub input_there : (task place : ℕ) (t : Unfinished (Tree C) K) → task_at (state lib now).graph task ≡ Some t
-      → (o : Option Slot) → option_map input_of o ≡ input_at before.control.graph task place → is_some o ≡ nat_lt place (length t.inputs)
-  input_there task place t there o is =
-      let u = there_from lib arity before.control task t (there_before task t there) in
-      slot_there o (slice_get u.0.inputs place) (is ∙ inputs_at before.control.graph task place u.0 u.1)
-      ∙ there_below u.0.inputs place
-      ∙ ap (nat_lt place) (sym (length-map u.0.inputs (input_shown before.control.names)))
-      ∙ ap (λ (t : Unfinished (Tree C) K). nat_lt place (length t.inputs)) (sym u.2)
+-- a row has as many inputs as it counts, at most
+pub few_in : {K : Type 0} (row : TaskRow K) → row.count ≤ 4 → length (unfinished_in row).inputs ≤ 4
+few_in row few = omega (arith, few, length-map (take row.count row.slots) input_of, few_taken row.count row.slots)
 
-  -- a goal is defined only for four inputs at most
-  pub few_inputs : HasFewInputs lib → HoldsTogether lib (state lib before) → (task : ℕ) (t : Unfinished (Tree C) K) → task_at (state lib now).graph task ≡ Some t → length t.inputs ≤ 4
-  few_inputs few facts task t there =
-      subst (λ n. n ≤ 4) (length-map t.inputs (read_input (goal_of lib (state lib before))))
-      (few t.kind (each (read_input (goal_of lib (state lib before))) t.inputs) (facts.defined task t (there_before task t there)))
+-- a reference that is an input is live
+pub inputs_live : {C K : Type 0} (arity : C → ℕ) (control : Control C (Unit {0}) K) → IsOrderly arity control → (task : ℕ) (t : Unfinished Ref K)
+    → task_at control.graph task ≡ Some t → AreLiveInputs control.names t.inputs
+inputs_live arity control ordered task t there place r is =
+    ref_is_live control.names (Task task) r (ordered.held.inputs task place r (inputs_at control.graph task place t there ∙ is))
 
-  -- a reference that is an input is live
-  pub input_live : IsOrderly arity before.control → (task place : ℕ) (r : Ref) → Some (Known r) ≡ input_at before.control.graph task place → IsLiveRef now.control.names r
-  input_live ordered task place r is =
-      subst (λ (core : Contents C K). IsLiveRef core.control.names r) view (ref_is_live before.control.names (Task task) r (ordered.held.inputs task place r (sym is)))
-
-pub many_trees : {C K : Type 0} (t : Unfinished (Tree C) K) → length (input_trees t) ≡ length t.inputs
-many_trees t = length-map t.inputs tree_known
+pub many_trees : {C K : Type 0} (names : NameState C) (t : Unfinished Ref K) → length (input_trees (task_shown names t)) ≡ length t.inputs
+many_trees names t = length-map (each (input_shown names) t.inputs) tree_known ∙ length-map t.inputs (input_shown names)
 
 -- of at most four inputs all are counted
 all_counted : {X : Type 0} (xs : List X) → length xs ≤ 4 → count_there (nat_lt 0 (length xs)) (nat_lt 1 (length xs)) (nat_lt 2 (length xs)) (nat_lt 3 (length xs)) ≡ length xs

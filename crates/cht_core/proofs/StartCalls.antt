@@ -1,11 +1,12 @@
 -- What a start answers.
-use Rattle.std.proofs.Common.{◌≡◌, ℕ, Some, refl, sym, ap, subst, ◌∙◌}
+use Rattle.std.proofs.Common.{◌≡◌, ℕ, Option, None, Some, refl, sym, ap, subst, ◌∙◌}
 use Rattle.std.specs.Option.{option_map}
 use Rattle.cht_ids.specs.declared.refs.Ref.{Ref}
 use Rattle.task_types.specs.Tree.{Tree}
 use Rattle.task_types.specs.Meanings.{Meanings}
-use Rattle.task_states.specs.declared.states.TaskStatus.TheVariants.{Ready, Waiting}
-use Rattle.task_states.specs.States.{Unfinished, task_at, status, kind_of}
+use Rattle.task_states.specs.declared.states.TaskStatus.{TaskStatus}
+use Rattle.task_states.specs.declared.states.TaskStatus.TheVariants.{Unknown, Ready, Waiting}
+use Rattle.task_states.specs.States.{Graph, Unfinished, task_at, status, status_of}
 use Rattle.task_states.proofs.Awaited.{awaits_nothing}
 use Rattle.cht_history.specs.declared.event.Event.TheVariants.{Start}
 use Rattle.name_machine.specs.States.{Machine}
@@ -16,7 +17,6 @@ use Rattle.name_machine.specs.Standing.{task_shown}
 use Rattle.name_machine.proofs.Ends.{inputs_at}
 use Rattle.name_machine.proofs.Invariant.{known_trees}
 use Rattle.name_machine.proofs.Stand.{shown_at, status_shown}
-use Rattle.name_machine.proofs.Tasks.{mapped_from}
 use Rattle.core_state.specs.Contents.{Contents}
 use Rattle.cht_core.specs.Events.{state, Happens}
 use Rattle.cht_core.specs.Granted.{IsGrantedOwn}
@@ -37,23 +37,25 @@ status_now {C} {K} lib before now view task =
 
 module _ {C K : Type 0} (lib : Meanings C K) (arity : C → ℕ) (before now after : Contents C K) (view : before ≡ now) where
   -- a worker that begins a task is told of it
-  pub begun : {L : Type 0} → HoldsTogether lib (state lib before) → (worker task : ℕ) (kind : K) (grants : Grants C) → status before.control.graph task ≡ Ready
-      → kind_of before.control.graph task ≡ Some kind
-      → ((t : Unfinished (Tree C) K) → task_at (state lib now).graph task ≡ Some t → IsGrantedOwn (input_trees t) grants)
-      → Happens lib arity now after (Start worker task) → IsBegun {L = L} lib arity now after worker task (record { task = task; kind = kind; inputs = grants })
-  begun facts worker task kind grants ready kind_is granted happens =
-      let u = mapped_from (λ (t : Unfinished Ref K). t.kind) (task_at before.control.graph task) kind kind_is in
-      let t : Unfinished (Tree C) K = task_shown before.control.names u.0 in
-      let then : task_at (state lib before).graph task ≡ Some t = shown_at before.control.names before.control.graph task ∙ ap (option_map (task_shown before.control.names)) u.1 in
-      let there : task_at (state lib now).graph task ≡ Some t = ap (λ (core : Contents C K). task_at (state lib core).graph task) (sym view) ∙ then in
-      let inputs = granted t there in
+  pub begun : {L : Type 0} → HoldsTogether lib (state lib before) → (worker task : ℕ) (u : Unfinished Ref K) (grants : Grants C)
+      → task_at now.control.graph task ≡ Some u → status now.control.graph task ≡ Ready → IsGrantedOwn (input_trees (task_shown now.control.names u)) grants
+      → Happens lib arity now after (Start worker task) → IsBegun {L = L} lib arity now after worker task (record { task = task; kind = u.kind; inputs = grants })
+  begun facts worker task u grants row ready granted happens =
+      let t : Unfinished (Tree C) K = task_shown now.control.names u in
+      let there : task_at (state lib now).graph task ≡ Some t = shown_at now.control.names now.control.graph task ∙ ap (option_map (task_shown now.control.names)) row in
       record {
         happens = happens;
         task_is = refl;
         unfinished = t;
         there = there;
-        kind = u.2;
-        own = inputs.0;
-        shown = inputs.1;
-        defined = ready_defined lib (state lib before) facts task t then (status_shown before.control.names before.control.graph task ∙ ready);
+        kind = refl;
+        own = granted.0;
+        shown = granted.1;
+        defined =
+            ready_defined lib (state lib now) (subst (λ (core : Contents C K). HoldsTogether lib (state lib core)) view facts) task t there (status_shown now.control.names now.control.graph task ∙ ready);
       }
+
+-- how far a task is of which this is known
+pub row_status : {K : Type 0} (graph : Graph Ref K) (task : ℕ) (o : Option (Unfinished Ref K)) → o ≡ task_at graph task
+    → elim o as (λ x. TaskStatus) [ None ↦ Unknown | Some t ↦ status_of t ] ≡ status graph task
+row_status {K} graph task o is = ap (λ (o : Option (Unfinished Ref K)). elim o as (λ x. TaskStatus) [ None ↦ Unknown | Some t ↦ status_of t ]) is

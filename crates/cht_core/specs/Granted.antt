@@ -1,10 +1,15 @@
 -- What a worker is granted of the inputs of a task, and what it shows.
-use Rattle.std.specs.Prelude.{ℕ, Bool, if◌then◌else◌, Option, None, Some, List}
-use Rattle.task_types.specs.Tree.{Tree, Nothing as NoTree, Root, is_there, child}
+use Rattle.std.specs.Prelude.{◌≡◌, ℕ, Bool, if◌then◌else◌, Option, None, Some, List, slice_get}
+use Rattle.cht_ids.specs.declared.refs.Ref.{Ref}
+use Rattle.task_types.specs.Tree.{Tree, Nothing as NoTree, Root, is_there}
 use Rattle.task_types.specs.Shown.{mask, Shows}
 use Rattle.task_types.specs.declared.inputs.View.{View}
 use Rattle.task_types.specs.declared.inputs.View.TheVariants as view
 use Rattle.task_types.specs.declared.inputs.Inputs.{Inputs}
+use Rattle.name_states.specs.States.{NameState, IsLiveRef}
+use Rattle.task_states.specs.States.{Input, Known}
+use Rattle.name_machine.specs.Steps.{tree_known}
+use Rattle.name_machine.specs.Standing.{input_shown}
 use Rattle.cht_core.specs.declared.grants.Grant.{Grant}
 use Rattle.cht_core.specs.declared.grants.Grant.TheVariants.{Nothing, Own, Cached, Bytes}
 use Rattle.cht_core.specs.declared.grants.Grants.{Grants}
@@ -44,10 +49,6 @@ module _ {C : Type 0} where
         fourth = view_granted grants.fourth;
       }
 
-  -- the mask of the children of a tree that are there
-  abbrev pub mask_of : Tree C → ℕ
-  mask_of tree = mask (is_there (child tree 0)) (is_there (child tree 1)) (is_there (child tree 2)) (is_there (child tree 3))
-
   -- a tree, granted as the owner's object
   abbrev pub own_of : Tree C → Grant C
   own_of NoTree = Nothing
@@ -57,6 +58,19 @@ module _ {C : Type 0} where
   abbrev pub or_nothing : Option (Grant C) → Grant C
   or_nothing None = Nothing
   or_nothing (Some grant) = grant
+
+  -- the tree of an input; nothing where there is none, or it is awaited
+  abbrev pub tree_in : NameState C → Option (Input Ref) → Tree C
+  tree_in names None = NoTree
+  tree_in names (Some input) = tree_known (input_shown names input)
+
+  -- what an input names is live
+  abbrev pub IsLiveInput : NameState C → Option (Input Ref) → Type 0
+  IsLiveInput names input = (r : Ref) → input ≡ Some (Known r) → IsLiveRef names r
+
+  -- so for each of these
+  abbrev pub AreLiveInputs : NameState C → List (Input Ref) → Type 0
+  AreLiveInputs names inputs = (place : ℕ) → IsLiveInput names (slice_get inputs place)
 
   -- what is granted shows these trees, and each is null or of the worker's own store
   abbrev pub IsGrantedOwn : List (Tree C) → Grants C → Type 0

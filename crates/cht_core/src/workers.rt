@@ -1,9 +1,10 @@
-ghost use Rattle.std.specs.Prelude.{◌≡◌, ℕ, ◌<◌, Some, IfOk, OnErr, IfSome, IfNone};
+ghost use Rattle.std.specs.Prelude.{◌≡◌, ℕ, ◌<◌, ◌≤◌, Some, IfOk, OnErr, IfSome, IfNone};
 ghost use Rattle.task_types.specs.Tree.{Tree};
 ghost use Rattle.task_types.specs.Sound.{IsSound};
 ghost use Rattle.cht_history.specs.declared.event.Event.TheVariants.{GiveBack};
 ghost use Rattle.task_states.specs.declared.states.TaskStatus.TheVariants.{Ready};
 ghost use Rattle.task_states.specs.States.{Unfinished, task_at, status as status_at};
+ghost use Rattle.task_graph.specs.Rows.{unfinished_in};
 ghost use Rattle.name_machine.specs.States.{Runs as RunsIn, IsIdle as IsIdleIn};
 ghost use Rattle.name_machine.specs.Steps.{input_trees};
 ghost use Rattle.core_steps.specs.Conditions.{finish_of};
@@ -15,6 +16,7 @@ ghost use Rattle.cht_core.specs.Started.{IsStarted};
 use crate::answers::{Idle, Start, Started};
 use crate::cores::Core;
 use cht_ids::{List, Memory, TaskNo};
+use task_graph::TaskRow;
 use task_states::TaskStatus;
 use task_types::laws::plans_decided;
 use task_types::{Library, Outcome};
@@ -27,27 +29,35 @@ impl<L: Library> Core<L> {
         requires idle { IsIdleIn (state L.meanings self.old) w }
         ensures { IsStarted L.meanings L.Chunk.arity self.old self.new w task result }
     {
-        match self.kept.status(task) {
-            TaskStatus::Ready => self.start_ready(w, task),
-            status => Start::NotReady(status),
+        match self.kept.row(task) {
+            None => Start::NotReady(TaskStatus::Unknown),
+            Some(row) => match row.status() {
+                TaskStatus::Ready => self.start_ready(w, task, &row),
+                status => Start::NotReady(status),
+            },
         }
     }
 
-    // The same for a task that is Ready.
-    fn start_ready(&mut self, w: u32, task: TaskNo) -> Start<L>
+    // The same for a task that is Ready, of which this is known.
+    fn start_ready(&mut self, w: u32, task: TaskNo, row: &TaskRow<L::Kind>) -> Start<L>
         requires worker { w < self.old.workers }
         requires idle { IsIdleIn (state L.meanings self.old) w }
+        requires row { task_at self.old.control.graph task ≡ Some (unfinished_in row.now) }
+        requires few { row.now.count ≤ 4 }
         requires ready { status_at self.old.control.graph task ≡ Ready }
         ensures { IsStarted L.meanings L.Chunk.arity self.old self.new w task result }
     {
-        let kind = self.kept.kind(task);
-        let Ok(inputs) = self.grants(task) else {
+        let Ok(inputs) = self.grants(row) else {
             return Start::Memory;
         };
         let Ok(()) = self.kept.start(w, task) else {
             return Start::Memory;
         };
-        Start::Started(Started { task, kind, inputs })
+        Start::Started(Started {
+            task,
+            kind: row.kind,
+            inputs,
+        })
     }
 
     /// The outcome of the task that a worker runs takes effect: its new chunks are registered on the worker, its new tasks are there, what

@@ -8,6 +8,7 @@ pub mod Fresh
 pub mod Grown
 pub mod Ids
 pub mod Linked
+pub mod Masking
 pub mod Padded
 pub mod Places
 pub mod Registering

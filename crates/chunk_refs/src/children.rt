@@ -1,7 +1,9 @@
 // The children of a body as four references.
 ghost use Rattle.std.specs.Prelude.{◌≡◌, ◌+◌, ◌≤◌, ◌<◌, ◌^◌, length, drop, slice_get, Some};
 ghost use Rattle.name_states.specs.Steps.{drawn_by, present, numbered_ref, numbered};
+ghost use Rattle.task_types.specs.Shown.{bit as bit_of};
 ghost use Rattle.chunk_refs.specs.Inside.{refs_of, all_four, AreNull};
+ghost use Rattle.chunk_refs.specs.Masks.{is_some_ref, mask_in};
 
 use cht_ids::{Counter, Id, Ref};
 
@@ -18,6 +20,18 @@ pub(crate) struct Children {
 // One number for a child that is not null.
 fn draws(child: Ref) -> u32
     ensures value { result ≡ drawn_by child }
+    ensures few { result ≤ 1 }
+{
+    match child {
+        Ref::Null => 0,
+        Ref::Id(_) => 1,
+    }
+}
+
+// One bit of a mask for a child: whether it is not null.
+#[inline(always)]
+fn bit(child: &Ref) -> u8
+    ensures value { result ≡ bit_of (is_some_ref child.now) }
     ensures few { result ≤ 1 }
 {
     match child {
@@ -91,6 +105,13 @@ impl Children {
             third,
             fourth,
         }
+    }
+
+    /// The mask of those that are not null: bit j, counted from 0, for child j.
+    pub fn mask(&self) -> u8
+        ensures { result ≡ mask_in self.now }
+    {
+        bit(&self.first) + 2 * bit(&self.second) + 4 * bit(&self.third) + 8 * bit(&self.fourth)
     }
 
     /// Child `j`, counted from 0; `None` past the last one.

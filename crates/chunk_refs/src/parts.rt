@@ -439,7 +439,8 @@ impl<C: Payload> Parts<C> {
     pub fn chunk_of(&self, id: Id) -> &Chunk<C>
         requires chain { HasChain self.now None }
         requires live { IsLive (names_of self.now) id }
-        ensures { body_record_of (names_of self.now) id ≡ Some (shown_chunk id.owner result.now) }
+        ensures body { body_record_of (names_of self.now) id ≡ Some (shown_chunk id.owner result.now) }
+        ensures padded { AreNull (drop result.now.children.count (all_four result.now.children)) }
     {
         let name = self.name(id);
         self.chunk(name.owner, name.key)

@@ -8,6 +8,7 @@ ghost use Rattle.name_states.specs.Trees.{tree_of};
 ghost use Rattle.name_states.specs.Steps.{IsOutside, present, numbered, registered, copied, without_id};
 ghost use Rattle.name_states.specs.Reached.{IsReached, swept};
 ghost use Rattle.name_states.specs.Rules.{IsSound, AreReached, AreWithin};
+ghost use Rattle.chunk_refs.specs.Masks.{mask_of};
 ghost use Rattle.chunk_refs.specs.Others.{AreAllAsBefore, AreRestAsBefore, AreOthersLive, IsOnlyNew, IsHeldByBodyOf};
 
 use crate::children::Children;
@@ -184,6 +185,22 @@ impl<C: Payload> Refs<C> {
         // This call is there for the proof: it tells that the content is sound.
         let _ = body.content();
         body
+    }
+
+    /// The body that a live identifier names, as by `look`, and the mask of its children that are not null: bit j, counted from
+    /// 0, for child j. Both are found at once.
+    pub fn look_masked(&self, id: Id) -> (&Body<C>, u8)
+        requires { IsLive self.now.names id }
+        ensures content { content_of self.now.names id ≡ Some result.0.now }
+        ensures sound { C.sound result.0.now }
+        ensures tree { tree_of self.now.names (Held id) ≡ rooted result.0.now (each (tree_of self.now.names) (children_of self.now.names id)) }
+        ensures mask { result.1 ≡ mask_of (tree_of self.now.names (Held id)) }
+    {
+        let chunk = self.parts.chunk_of(id);
+        let body = &chunk.body;
+        // This call is there for the proof: it tells that the content is sound.
+        let _ = body.content();
+        (body, chunk.children.mask())
     }
 
     /// The number of the body that a live identifier names.

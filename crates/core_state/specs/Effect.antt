@@ -6,7 +6,7 @@ use Rattle.cht_ids.specs.declared.refs.Ref.{Ref}
 use Rattle.task_types.specs.declared.outcome.Place.{Place}
 use Rattle.task_types.specs.declared.outcome.Place.TheVariants.{Null, Input, Child, Chunk, Task}
 use Rattle.name_states.specs.States.{NameState}
-use Rattle.task_states.specs.States.{Unfinished, Graph, task_at}
+use Rattle.task_states.specs.States.{Unfinished, Graph, task_at, caller_of}
 use Rattle.task_graph.specs.Contents.{AreOfOneCaller, IsAskedOnce}
 use Rattle.name_machine.specs.States.{Ask}
 use Rattle.name_machine.specs.NewTasks.{number_at}
@@ -26,9 +26,10 @@ task_named numbers (Chunk i) = None
 task_named numbers (Task i) = Some (number_at numbers i)
 
 module _ {K : Type 0} where
-  -- What an outcome fills: the references of the task's inputs are there, and the rest is empty and has room for so many new chunks and new
-  -- tasks.
+  -- What an outcome fills: the task's caller and the references of its inputs are there, and the rest is empty and has room for so many new
+  -- chunks and new tasks.
   pub record HasRoom (graph : Graph Ref K) (task new_chunks new_tasks : ℕ) (space : Space) : Type 0 where
+    pub caller : caller_of graph task ≡ Some space.caller
     pub inputs : (ran : Unfinished Ref K) → task_at graph task ≡ Some ran → space.inputs.items ≡ each ref_known ran.inputs
     pub made : space.made.items ≡ []
     pub numbers : space.numbers.items ≡ []

@@ -13,6 +13,7 @@ ghost use Rattle.task_states.specs.States.{Unfinished, task_at, asked_of, status
 ghost use Rattle.task_states.specs.Steps.{all_delivered};
 ghost use Rattle.task_states.specs.Listing.{awaiters};
 ghost use Rattle.task_graph.specs.Contents.{input_of};
+ghost use Rattle.task_graph.specs.Rows.{unfinished_in};
 ghost use Rattle.chunk_refs.specs.Room.{workers_of, spare_of};
 ghost use Rattle.name_machine.specs.Control.{ref_known, with_number, copies_of, awaiting, answered_with, resolved_to, tidied, after_finish};
 ghost use Rattle.core_steps.specs.Begin.{CanFinish};
@@ -31,14 +32,15 @@ use core_steps::{
     add_tasks, end_task, list_ready, read_place, register_chunks, renumbered, settle,
 };
 use std::alloc::Global;
-use task_graph::Tasks;
+use task_graph::{TaskRow, Tasks};
 use task_states::Slot;
 use task_types::{NewChunk, NewTask, Outcome, Payload, Place, Places};
 
-// What an outcome fills: the references of the task's inputs and of its new chunks, and the numbers of its new tasks. The lists are kept
-// from one finish to the next, which uses their memory again.
+// What is read of a task that finishes, its caller and the references of its inputs, and what its outcome fills: the references of its
+// new chunks, and the numbers of its new tasks. The lists are kept from one finish to the next, which uses their memory again.
 #[derive(Drop)]
 pub(crate) struct Space {
+    pub caller: u32,
     pub inputs: Vec<Ref>,
     pub made: Vec<Ref>,
     pub numbers: Vec<TaskNo>,
@@ -48,6 +50,7 @@ impl Space {
     /// Empty lists. They take no memory.
     pub fn new(alloc: Global) -> Space {
         Space {
+            caller: 0,
             inputs: Vec::new(alloc),
             made: Vec::new(alloc),
             numbers: Vec::new(alloc),
@@ -66,13 +69,12 @@ fn known_of(slot: Slot) -> Ref
 }
 
 // Writes what the inputs of a task name over a list.
-fn read_inputs<K: Copy>(graph: &Tasks<K>, task: TaskNo, inputs: &mut Vec<Ref>) -> Result<(), Memory>
-    requires { IsSome (task_at graph.now.graph task) }
-    ensures { (ran : Unfinished AnyRef K) → task_at graph.now.graph task ≡ Some ran → OnOk result (inputs.new.items ≡ each ref_known ran.inputs) }
+fn read_inputs<K: Copy>(row: &TaskRow<K>, inputs: &mut Vec<Ref>) -> Result<(), Memory>
+    ensures { OnOk result (inputs.new.items ≡ each ref_known (unfinished_in row.now).inputs) }
 {
     inputs.clear();
     let mut place = 0;
-    while let Some(slot) = graph.input(task, place) {
+    while let Some(slot) = row.input(place) {
         inputs.push(known_of(slot))?;
         place += 1;
     }
@@ -116,7 +118,7 @@ fn make_finish_room<C: Payload, K: Copy>(
     Ok(count)
 }
 
-// What an outcome with so many new chunks and new tasks fills, with room for all of it.
+// Reads the task, and makes room for so many new chunks and new tasks of its outcome.
 fn make_space<K: Copy>(
     graph: &Tasks<K>,
     task: TaskNo,
@@ -127,7 +129,9 @@ fn make_space<K: Copy>(
     requires { IsSome (task_at graph.now.graph task) }
     ensures { OnOk result (HasRoom graph.now.graph task chunks tasks space.new) }
 {
-    read_inputs(graph, task, &mut space.inputs)?;
+    let row = graph.row(task).unwrap();
+    space.caller = row.caller;
+    read_inputs(&row, &mut space.inputs)?;
     space.made.clear();
     space.made.reserve(chunks)?;
     space.numbers.clear();
@@ -280,7 +284,6 @@ fn take_effect<C: Payload, K: Copy>(
     ensures stores { length names.new.room.bodies ≡ length names.old.room.bodies }
     ensures callers { length asks.new.rooms ≡ length asks.old.rooms }
 {
-    let caller = graph.caller(task);
     register_chunks(
         names,
         counter,
@@ -295,7 +298,7 @@ fn take_effect<C: Payload, K: Copy>(
         names,
         counter,
         graph,
-        caller,
+        space.caller,
         &space.inputs,
         &space.made,
         tasks,

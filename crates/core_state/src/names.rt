@@ -5,6 +5,7 @@ ghost use Rattle.cht_ids.specs.declared.refs.Ref.TheVariants.{Id as Held};
 ghost use Rattle.task_types.specs.Tree.{rooted};
 ghost use Rattle.name_states.specs.States.{IsLive, body_of, content_of, children_of};
 ghost use Rattle.name_states.specs.Trees.{tree_of};
+ghost use Rattle.chunk_refs.specs.Masks.{mask_of};
 ghost use Rattle.cht_history.specs.declared.event.Event.TheVariants.{Register, Copy as CopyEvent, Delete};
 ghost use Rattle.name_machine.specs.Forgetting.{forgotten};
 ghost use Rattle.name_machine.specs.Replay.{is_mine, may_mention};
@@ -110,6 +111,18 @@ impl<C: Payload, K: Copy> CoreState<C, K> {
         ensures tree { tree_of self.now.control.names (Held id) ≡ rooted result.now (each (tree_of self.now.control.names) (children_of self.now.control.names id)) }
     {
         self.names.look(id)
+    }
+
+    /// The body that a live identifier names, as by `look`, and the mask of its children that are not null: bit j, counted from
+    /// 0, for child j. Both are found at once.
+    pub fn look_masked(&self, id: Id) -> (&Body<C>, u8)
+        requires { IsLive self.now.control.names id }
+        ensures content { content_of self.now.control.names id ≡ Some result.0.now }
+        ensures sound { C.sound result.0.now }
+        ensures tree { tree_of self.now.control.names (Held id) ≡ rooted result.0.now (each (tree_of self.now.control.names) (children_of self.now.control.names id)) }
+        ensures mask { result.1 ≡ mask_of (tree_of self.now.control.names (Held id)) }
+    {
+        self.names.look_masked(id)
     }
 
     /// The number of the body that a live identifier names.

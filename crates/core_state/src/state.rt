@@ -1,8 +1,8 @@
 ghost use Rattle.std.specs.Prelude.{◌≡◌, ◌↔◌, ◌&&◌, nat_eq, ℕ, ◌+◌, ◌^◌, ◌<◌, ◌≤◌, [], length, Some, None, IfOk, OnOk, IfSome, IfNone, IsSome, IsTrue, option_map, true};
 ghost use Rattle.std.specs.FinMap as map;
-ghost use Rattle.task_states.specs.States.{task_at, status as status_at, is_stopped as is_stopped_in, running as running_in, kind_of, caller_of, input_at};
+ghost use Rattle.task_states.specs.States.{task_at, is_stopped as is_stopped_in, running as running_in};
 ghost use Rattle.task_states.specs.Awaiters.{IsLeastOf, IsRunnable, IsWanted};
-ghost use Rattle.task_graph.specs.Contents.{input_of};
+ghost use Rattle.task_graph.specs.Rows.{unfinished_in};
 ghost use Rattle.name_machine.specs.States.{Ask, has_ask as has_ask_in};
 ghost use Rattle.name_machine.specs.Control.{no_control};
 ghost use Rattle.name_machine.specs.Forgetting.{forgotten};
@@ -19,8 +19,7 @@ use cht_ids::{Counter, Memory, Ref, TaskNo};
 use chunk_refs::Refs;
 use std::alloc::Global;
 use std::marker::Model;
-use task_graph::Tasks;
-use task_states::{Slot, TaskStatus};
+use task_graph::{TaskRow, Tasks};
 use task_types::Payload;
 
 /// The control state of a core with up to 64 callers and 64 workers, and the journal of the events that led there.
@@ -125,36 +124,12 @@ impl<C: Payload, K: Copy> CoreState<C, K> {
         })
     }
 
-    /// How far a task is.
-    pub fn status(&self, task: TaskNo) -> TaskStatus
-        ensures { result ≡ status_at self.now.control.graph task }
+    /// What is known of a task, found at once; `None` exactly where there is no such unfinished task.
+    pub fn row(&self, task: TaskNo) -> Option<TaskRow<K>>
+        ensures row { option_map unfinished_in result ≡ task_at self.now.control.graph task }
+        ensures few { IfSome result (λ row. row.count ≤ 4) }
     {
-        self.graph.status(task)
-    }
-
-    /// The caller of an unfinished task.
-    pub fn caller(&self, task: TaskNo) -> u32
-        requires { IsSome (task_at self.now.control.graph task) }
-        ensures { caller_of self.now.control.graph task ≡ Some result }
-    {
-        self.graph.caller(task)
-    }
-
-    /// The kind of an unfinished task.
-    pub fn kind(&self, task: TaskNo) -> K
-        requires { IsSome (task_at self.now.control.graph task) }
-        ensures { kind_of self.now.control.graph task ≡ Some result }
-    {
-        self.graph.kind(task)
-    }
-
-    /// The input of an unfinished task at a place, counted from 0; `None` exactly where the task has no such input, as from place 4 on.
-    pub fn input(&self, task: TaskNo, place: u32) -> Option<Slot>
-        requires { IsSome (task_at self.now.control.graph task) }
-        ensures input { option_map input_of result ≡ input_at self.now.control.graph task place }
-        ensures few { IfSome result (λ _. place < 4) }
-    {
-        self.graph.input(task, place)
+        self.graph.row(task)
     }
 
     /// Whether a caller is stopped.

@@ -39,11 +39,11 @@ list_ready-requires g c =
     tasked_as g.C.Payload.arity control c.args.w c.args.task c.requires.can.0 outcome c.requires.can.1
     c.args.space.now.inputs.items c.register_chunks.new.made.items c.deref.result.now c.deref-2.result.now c.deref-3.result.now c.deref-4.result.now c.deref-5.result.now
     c.register_chunks.new.names.names c.register_chunks.new.counter c.read_place-output.result
-    c.add_tasks.new.names.names c.add_tasks.new.counter c.add_tasks.new.graph.graph c.add_tasks.new.numbers.items c.caller-caller.result
+    c.add_tasks.new.names.names c.add_tasks.new.counter c.add_tasks.new.graph.graph c.add_tasks.new.numbers.items c.args.space.now.caller
     c.deref.ensures.value c.deref-2.ensures.value c.deref-3.ensures.value c.deref-4.ensures.value c.deref-5.ensures.value
     (c.requires.space.inputs c.requires.can.0 c.requires.can.1.there)
     c.register_chunks.ensures.names c.register_chunks.ensures.drawn c.register_chunks.ensures.made c.read_place-output.ensures.value
-    c.add_tasks.ensures.names c.add_tasks.ensures.drawn c.add_tasks.ensures.graph c.add_tasks.ensures.numbers c.caller-caller.ensures in
+    c.add_tasks.ensures.names c.add_tasks.ensures.drawn c.add_tasks.ensures.graph c.add_tasks.ensures.numbers c.requires.space.caller in
     let count = few_found g.C.Payload.arity control c.args.w c.args.task c.requires.can.0 outcome c.requires.can.1
     c.add_tasks.new.names.names c.add_tasks.new.counter c.add_tasks.new.graph.graph c.add_tasks.new.numbers.items c.read_place-output.result c.args.space.now.inputs.items c.register_chunks.new.made.items tasked in
     let same : length c.deref-6.result.now ≡ length c.add_tasks.new.numbers.items = ap length c.deref-6.ensures.value in
@@ -59,11 +59,11 @@ resolve-requires-clause-live g c κs within =
     tasked_as g.C.Payload.arity control c.args.w c.args.task c.requires.can.0 outcome c.requires.can.1
     c.args.space.now.inputs.items c.register_chunks.new.made.items c.deref.result.now c.deref-2.result.now c.deref-3.result.now c.deref-4.result.now c.deref-5.result.now
     c.register_chunks.new.names.names c.register_chunks.new.counter c.read_place-output.result
-    c.add_tasks.new.names.names c.add_tasks.new.counter c.add_tasks.new.graph.graph c.add_tasks.new.numbers.items c.caller-caller.result
+    c.add_tasks.new.names.names c.add_tasks.new.counter c.add_tasks.new.graph.graph c.add_tasks.new.numbers.items c.args.space.now.caller
     c.deref.ensures.value c.deref-2.ensures.value c.deref-3.ensures.value c.deref-4.ensures.value c.deref-5.ensures.value
     (c.requires.space.inputs c.requires.can.0 c.requires.can.1.there)
     c.register_chunks.ensures.names c.register_chunks.ensures.drawn c.register_chunks.ensures.made c.read_place-output.ensures.value
-    c.add_tasks.ensures.names c.add_tasks.ensures.drawn c.add_tasks.ensures.graph c.add_tasks.ensures.numbers c.caller-caller.ensures in
+    c.add_tasks.ensures.names c.add_tasks.ensures.drawn c.add_tasks.ensures.graph c.add_tasks.ensures.numbers c.requires.space.caller in
     output_live g.C.Payload.arity control c.args.w c.args.task c.requires.can.0 outcome c.requires.can.1
     c.add_tasks.new.names.names c.add_tasks.new.counter c.add_tasks.new.graph.graph c.add_tasks.new.numbers.items c.read_place-output.result c.args.space.now.inputs.items c.register_chunks.new.made.items tasked
 
@@ -75,11 +75,11 @@ resolve-requires-clause-apart g c κs within =
     tasked_as g.C.Payload.arity control c.args.w c.args.task c.requires.can.0 outcome c.requires.can.1
     c.args.space.now.inputs.items c.register_chunks.new.made.items c.deref.result.now c.deref-2.result.now c.deref-3.result.now c.deref-4.result.now c.deref-5.result.now
     c.register_chunks.new.names.names c.register_chunks.new.counter c.read_place-output.result
-    c.add_tasks.new.names.names c.add_tasks.new.counter c.add_tasks.new.graph.graph c.add_tasks.new.numbers.items c.caller-caller.result
+    c.add_tasks.new.names.names c.add_tasks.new.counter c.add_tasks.new.graph.graph c.add_tasks.new.numbers.items c.args.space.now.caller
     c.deref.ensures.value c.deref-2.ensures.value c.deref-3.ensures.value c.deref-4.ensures.value c.deref-5.ensures.value
     (c.requires.space.inputs c.requires.can.0 c.requires.can.1.there)
     c.register_chunks.ensures.names c.register_chunks.ensures.drawn c.register_chunks.ensures.made c.read_place-output.ensures.value
-    c.add_tasks.ensures.names c.add_tasks.ensures.drawn c.add_tasks.ensures.graph c.add_tasks.ensures.numbers c.caller-caller.ensures in
+    c.add_tasks.ensures.names c.add_tasks.ensures.drawn c.add_tasks.ensures.graph c.add_tasks.ensures.numbers c.requires.space.caller in
     set_apart g.C.Payload.arity control c.args.w c.args.task c.requires.can.0 outcome c.requires.can.1
     c.add_tasks.new.names.names c.add_tasks.new.counter c.add_tasks.new.graph.graph c.add_tasks.new.numbers.items c.read_place-output.result c.args.space.now.inputs.items c.register_chunks.new.made.items tasked
 
@@ -91,11 +91,11 @@ resolve-requires-clause-room g c κs within =
     tasked_as g.C.Payload.arity control c.args.w c.args.task c.requires.can.0 outcome c.requires.can.1
     c.args.space.now.inputs.items c.register_chunks.new.made.items c.deref.result.now c.deref-2.result.now c.deref-3.result.now c.deref-4.result.now c.deref-5.result.now
     c.register_chunks.new.names.names c.register_chunks.new.counter c.read_place-output.result
-    c.add_tasks.new.names.names c.add_tasks.new.counter c.add_tasks.new.graph.graph c.add_tasks.new.numbers.items c.caller-caller.result
+    c.add_tasks.new.names.names c.add_tasks.new.counter c.add_tasks.new.graph.graph c.add_tasks.new.numbers.items c.args.space.now.caller
     c.deref.ensures.value c.deref-2.ensures.value c.deref-3.ensures.value c.deref-4.ensures.value c.deref-5.ensures.value
     (c.requires.space.inputs c.requires.can.0 c.requires.can.1.there)
     c.register_chunks.ensures.names c.register_chunks.ensures.drawn c.register_chunks.ensures.made c.read_place-output.ensures.value
-    c.add_tasks.ensures.names c.add_tasks.ensures.drawn c.add_tasks.ensures.graph c.add_tasks.ensures.numbers c.caller-caller.ensures in
+    c.add_tasks.ensures.names c.add_tasks.ensures.drawn c.add_tasks.ensures.graph c.add_tasks.ensures.numbers c.requires.space.caller in
     let fewer = few_await g.C.Payload.arity control c.args.w c.args.task c.requires.can.0 outcome c.requires.can.1
     c.add_tasks.new.names.names c.add_tasks.new.counter c.add_tasks.new.graph.graph c.add_tasks.new.numbers.items c.read_place-output.result c.args.space.now.inputs.items c.register_chunks.new.made.items tasked in
     let tasks = c.requires.can.1.formed.few_tasks in
@@ -113,11 +113,11 @@ resolve-requires-clause-capacity g c κs within =
     tasked_as g.C.Payload.arity control c.args.w c.args.task c.requires.can.0 outcome c.requires.can.1
     c.args.space.now.inputs.items c.register_chunks.new.made.items c.deref.result.now c.deref-2.result.now c.deref-3.result.now c.deref-4.result.now c.deref-5.result.now
     c.register_chunks.new.names.names c.register_chunks.new.counter c.read_place-output.result
-    c.add_tasks.new.names.names c.add_tasks.new.counter c.add_tasks.new.graph.graph c.add_tasks.new.numbers.items c.caller-caller.result
+    c.add_tasks.new.names.names c.add_tasks.new.counter c.add_tasks.new.graph.graph c.add_tasks.new.numbers.items c.args.space.now.caller
     c.deref.ensures.value c.deref-2.ensures.value c.deref-3.ensures.value c.deref-4.ensures.value c.deref-5.ensures.value
     (c.requires.space.inputs c.requires.can.0 c.requires.can.1.there)
     c.register_chunks.ensures.names c.register_chunks.ensures.drawn c.register_chunks.ensures.made c.read_place-output.ensures.value
-    c.add_tasks.ensures.names c.add_tasks.ensures.drawn c.add_tasks.ensures.graph c.add_tasks.ensures.numbers c.caller-caller.ensures in
+    c.add_tasks.ensures.names c.add_tasks.ensures.drawn c.add_tasks.ensures.graph c.add_tasks.ensures.numbers c.requires.space.caller in
     let fewer = few_await g.C.Payload.arity control c.args.w c.args.task c.requires.can.0 outcome c.requires.can.1
     c.add_tasks.new.names.names c.add_tasks.new.counter c.add_tasks.new.graph.graph c.add_tasks.new.numbers.items c.read_place-output.result c.args.space.now.inputs.items c.register_chunks.new.made.items tasked in
     let count = few_found g.C.Payload.arity control c.args.w c.args.task c.requires.can.0 outcome c.requires.can.1
@@ -137,11 +137,11 @@ resolve-requires-clause-forward g c κs within =
     tasked_as g.C.Payload.arity control c.args.w c.args.task c.requires.can.0 outcome c.requires.can.1
     c.args.space.now.inputs.items c.register_chunks.new.made.items c.deref.result.now c.deref-2.result.now c.deref-3.result.now c.deref-4.result.now c.deref-5.result.now
     c.register_chunks.new.names.names c.register_chunks.new.counter c.read_place-output.result
-    c.add_tasks.new.names.names c.add_tasks.new.counter c.add_tasks.new.graph.graph c.deref-7.result.now c.caller-caller.result
+    c.add_tasks.new.names.names c.add_tasks.new.counter c.add_tasks.new.graph.graph c.deref-7.result.now c.args.space.now.caller
     c.deref.ensures.value c.deref-2.ensures.value c.deref-3.ensures.value c.deref-4.ensures.value c.deref-5.ensures.value
     (c.requires.space.inputs c.requires.can.0 c.requires.can.1.there)
     c.register_chunks.ensures.names c.register_chunks.ensures.drawn c.register_chunks.ensures.made c.read_place-output.ensures.value
-    c.add_tasks.ensures.names c.add_tasks.ensures.drawn c.add_tasks.ensures.graph (c.deref-7.ensures.value ∙ c.add_tasks.ensures.numbers) c.caller-caller.ensures in
+    c.add_tasks.ensures.names c.add_tasks.ensures.drawn c.add_tasks.ensures.graph (c.deref-7.ensures.value ∙ c.add_tasks.ensures.numbers) c.requires.space.caller in
     can_forward g.C.Payload.arity control c.args.w c.args.task c.requires.can.0 outcome c.requires.can.1
     c.add_tasks.new.names.names c.add_tasks.new.counter c.add_tasks.new.graph.graph c.deref-7.result.now c.read_place-output.result c.args.space.now.inputs.items c.register_chunks.new.made.items tasked
 
@@ -154,11 +154,11 @@ ends g c =
     tasked_as g.C.Payload.arity control c.args.w c.args.task c.requires.can.0 outcome c.requires.can.1
     c.args.space.now.inputs.items c.register_chunks.new.made.items c.deref.result.now c.deref-2.result.now c.deref-3.result.now c.deref-4.result.now c.deref-5.result.now
     c.register_chunks.new.names.names c.register_chunks.new.counter c.read_place-output.result
-    c.add_tasks.new.names.names c.add_tasks.new.counter c.add_tasks.new.graph.graph c.deref-7.result.now c.caller-caller.result
+    c.add_tasks.new.names.names c.add_tasks.new.counter c.add_tasks.new.graph.graph c.deref-7.result.now c.args.space.now.caller
     c.deref.ensures.value c.deref-2.ensures.value c.deref-3.ensures.value c.deref-4.ensures.value c.deref-5.ensures.value
     (c.requires.space.inputs c.requires.can.0 c.requires.can.1.there)
     c.register_chunks.ensures.names c.register_chunks.ensures.drawn c.register_chunks.ensures.made c.read_place-output.ensures.value
-    c.add_tasks.ensures.names c.add_tasks.ensures.drawn c.add_tasks.ensures.graph (c.deref-7.ensures.value ∙ c.add_tasks.ensures.numbers) c.caller-caller.ensures in
+    c.add_tasks.ensures.names c.add_tasks.ensures.drawn c.add_tasks.ensures.graph (c.deref-7.ensures.value ∙ c.add_tasks.ensures.numbers) c.requires.space.caller in
     subst (MayEnd c.resolve.new.names.names c.resolve.new.graph.graph c.args.task) (sym (λ i. c.deref-8.ensures.value i ++ c.deref-9.ensures.value i))
     (may_end g.C.Payload.arity control c.args.w c.args.task c.requires.can.0 outcome c.requires.can.1
     c.add_tasks.new.names.names c.add_tasks.new.counter c.add_tasks.new.graph.graph c.deref-7.result.now c.read_place-output.result c.args.space.now.inputs.items c.register_chunks.new.made.items tasked
@@ -184,11 +184,11 @@ sort_ready-requires g c =
     tasked_as g.C.Payload.arity control c.args.w c.args.task c.requires.can.0 outcome c.requires.can.1
     c.args.space.now.inputs.items c.register_chunks.new.made.items c.deref.result.now c.deref-2.result.now c.deref-3.result.now c.deref-4.result.now c.deref-5.result.now
     c.register_chunks.new.names.names c.register_chunks.new.counter c.read_place-output.result
-    c.add_tasks.new.names.names c.add_tasks.new.counter c.add_tasks.new.graph.graph c.deref-7.result.now c.caller-caller.result
+    c.add_tasks.new.names.names c.add_tasks.new.counter c.add_tasks.new.graph.graph c.deref-7.result.now c.args.space.now.caller
     c.deref.ensures.value c.deref-2.ensures.value c.deref-3.ensures.value c.deref-4.ensures.value c.deref-5.ensures.value
     (c.requires.space.inputs c.requires.can.0 c.requires.can.1.there)
     c.register_chunks.ensures.names c.register_chunks.ensures.drawn c.register_chunks.ensures.made c.read_place-output.ensures.value
-    c.add_tasks.ensures.names c.add_tasks.ensures.drawn c.add_tasks.ensures.graph (c.deref-7.ensures.value ∙ c.add_tasks.ensures.numbers) c.caller-caller.ensures in
+    c.add_tasks.ensures.names c.add_tasks.ensures.drawn c.add_tasks.ensures.graph (c.deref-7.ensures.value ∙ c.add_tasks.ensures.numbers) c.requires.space.caller in
     let listed =
     c.list_ready.ensures.ready ∙ (λ i. c.requires.empty i ++ filter (is_ready_in c.add_tasks.new.graph.graph) ((c.deref-6.ensures.value ∙ sym c.deref-7.ensures.value) i)) in
     c.resolve.ensures.distinct
@@ -209,11 +209,11 @@ returns-clause-effect g c =
     tasked_as g.C.Payload.arity control c.args.w c.args.task c.requires.can.0 outcome c.requires.can.1
     c.args.space.now.inputs.items c.register_chunks.new.made.items c.deref.result.now c.deref-2.result.now c.deref-3.result.now c.deref-4.result.now c.deref-5.result.now
     c.register_chunks.new.names.names c.register_chunks.new.counter c.read_place-output.result
-    c.add_tasks.new.names.names c.add_tasks.new.counter c.add_tasks.new.graph.graph c.deref-7.result.now c.caller-caller.result
+    c.add_tasks.new.names.names c.add_tasks.new.counter c.add_tasks.new.graph.graph c.deref-7.result.now c.args.space.now.caller
     c.deref.ensures.value c.deref-2.ensures.value c.deref-3.ensures.value c.deref-4.ensures.value c.deref-5.ensures.value
     (c.requires.space.inputs c.requires.can.0 c.requires.can.1.there)
     c.register_chunks.ensures.names c.register_chunks.ensures.drawn c.register_chunks.ensures.made c.read_place-output.ensures.value
-    c.add_tasks.ensures.names c.add_tasks.ensures.drawn c.add_tasks.ensures.graph (c.deref-7.ensures.value ∙ c.add_tasks.ensures.numbers) c.caller-caller.ensures in
+    c.add_tasks.ensures.names c.add_tasks.ensures.drawn c.add_tasks.ensures.graph (c.deref-7.ensures.value ∙ c.add_tasks.ensures.numbers) c.requires.space.caller in
     effect_is g.C.Payload.arity control c.args.w c.args.task c.requires.can.0 outcome c.requires.can.1
     c.add_tasks.new.names.names c.add_tasks.new.counter c.add_tasks.new.graph.graph c.deref-7.result.now c.read_place-output.result c.args.space.now.inputs.items c.register_chunks.new.made.items tasked
     c.resolve.new.names.names c.resolve.new.asks.asks c.resolve.new.graph.graph c.resolve.ensures.resolved
@@ -227,11 +227,11 @@ returns-clause-ready g c =
     tasked_as g.C.Payload.arity control c.args.w c.args.task c.requires.can.0 outcome c.requires.can.1
     c.args.space.now.inputs.items c.register_chunks.new.made.items c.deref.result.now c.deref-2.result.now c.deref-3.result.now c.deref-4.result.now c.deref-5.result.now
     c.register_chunks.new.names.names c.register_chunks.new.counter c.read_place-output.result
-    c.add_tasks.new.names.names c.add_tasks.new.counter c.add_tasks.new.graph.graph c.deref-7.result.now c.caller-caller.result
+    c.add_tasks.new.names.names c.add_tasks.new.counter c.add_tasks.new.graph.graph c.deref-7.result.now c.args.space.now.caller
     c.deref.ensures.value c.deref-2.ensures.value c.deref-3.ensures.value c.deref-4.ensures.value c.deref-5.ensures.value
     (c.requires.space.inputs c.requires.can.0 c.requires.can.1.there)
     c.register_chunks.ensures.names c.register_chunks.ensures.drawn c.register_chunks.ensures.made c.read_place-output.ensures.value
-    c.add_tasks.ensures.names c.add_tasks.ensures.drawn c.add_tasks.ensures.graph (c.deref-7.ensures.value ∙ c.add_tasks.ensures.numbers) c.caller-caller.ensures in
+    c.add_tasks.ensures.names c.add_tasks.ensures.drawn c.add_tasks.ensures.graph (c.deref-7.ensures.value ∙ c.add_tasks.ensures.numbers) c.requires.space.caller in
     let listed =
     c.list_ready.ensures.ready ∙ (λ i. c.requires.empty i ++ filter (is_ready_in c.add_tasks.new.graph.graph) ((c.deref-6.ensures.value ∙ sym c.deref-7.ensures.value) i)) in
     newly_ready g.C.Payload.arity control c.args.w c.args.task c.requires.can.0 outcome c.requires.can.1

@@ -1,8 +1,11 @@
-use Rattle.std.proofs.Common.{Ok, refl, sym, ap, ◌∙◌}
-use Rattle.task_states.specs.States.{status}
+use Rattle.std.proofs.Common.{Ok, refl, sym, ap, subst, ◌∙◌}
+use Rattle.task_states.specs.States.{task_at, status}
+use Rattle.task_graph.specs.Rows.{unfinished_in}
 use Rattle.core_state.specs.Contents.{Contents}
 use Rattle.cht_core.proofs.Calls.{start_called, idle_now}
 use Rattle.cht_core.proofs.FinishAllowed.{idle_runs_nothing}
+use Rattle.cht_core.specs.Granted.{AreLiveInputs}
+use Rattle.cht_core.proofs.InputTrees.{inputs_live}
 use Rattle.cht_core.proofs.StartCalls.{status_now, begun}
 use Rattle.cht_core.proofs.cores.Core.start_ready.Goals as goal
 
@@ -21,8 +24,8 @@ invariant_of-self-2 g c =
 pub returns : goal.returns
 returns g c =
     let ready = ap (λ (core : Contents g.row.L-Chunk.Denot g.row.L-Kind.Denot). status core.control.graph c.args.task) c.self.view_is ∙ c.requires.ready in
-    begun g.L.Library.meanings g.L.Chunk.Payload.arity c.self.inside.kept c.args.self.now c.start.new.self c.self.view_is c.self.invariant.facts c.args.w c.args.task c.kind-kind.result c.in-Ok.inputs
-    ready c.kind-kind.ensures c.in-Ok.ensures
+    begun g.L.Library.meanings g.L.Chunk.Payload.arity c.self.inside.kept c.args.self.now c.start.new.self c.self.view_is c.self.invariant.facts c.args.w c.args.task (unfinished_in c.args.row.now) c.in-Ok.inputs
+    c.requires.row c.requires.ready c.in-Ok.ensures
     (start_called g.L.Library.meanings g.L.Chunk.Payload.arity g.L.Kind.Kinds.name_of g.L.Kind.Kinds.height_of g.met.L.Library.adds_up
     c.self.inside.kept c.args.self.now c.start.new.self c.self.view_is c.self.invariant {E = Unit {0}} (Ok tt) c.args.w c.args.task c.requires.idle ready c.in-Ok-start.ensures.event tt).happens
 
@@ -35,3 +38,9 @@ pub returns-in_default-start : goal.returns-in_default-start
 returns-in_default-start g c =
     let ready = ap (λ (core : Contents g.row.L-Chunk.Denot g.row.L-Kind.Denot). status core.control.graph c.args.task) c.self.view_is ∙ c.requires.ready in
     (sym (status_now g.L.Library.meanings c.self.inside.kept c.args.self.now c.self.view_is c.args.task) ∙ ready, c.in_default-start.ensures.unchanged ∙ c.self.view_is)
+
+pub grants-requires-clause-live : goal.grants-requires-clause-live
+grants-requires-clause-live g c κs within =
+    subst (λ (core : Contents g.row.L-Chunk.Denot g.row.L-Kind.Denot). AreLiveInputs core.control.names (unfinished_in c.args.row.now).inputs) c.self.view_is
+    (inputs_live g.L.Chunk.Payload.arity c.self.inside.kept.control c.self.invariant.comes.ordered c.args.task (unfinished_in c.args.row.now)
+    (ap (λ (core : Contents g.row.L-Chunk.Denot g.row.L-Kind.Denot). task_at core.control.graph c.args.task) c.self.view_is ∙ c.requires.row))

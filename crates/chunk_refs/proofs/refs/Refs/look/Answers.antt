@@ -12,4 +12,4 @@ use Rattle.chunk_refs.proofs.refs.Refs.look.Goals as goal
 pub returns-clause-tree : goal.returns-clause-tree
 returns-clause-tree g c =
     subst (λ (v : Contents g.row.C.Denot). tree_of v.names (Held c.args.id) ≡ rooted c.chunk_of.result.now.body (each (tree_of v.names) (children_of v.names c.args.id))) c.self.view_is
-    (look-tree g.C.Payload.arity (names_of c.self.inside.parts) c.args.id (shown_chunk c.args.id.owner c.chunk_of.result.now) c.self.invariant.1 c.chunk_of.ensures)
+    (look-tree g.C.Payload.arity (names_of c.self.inside.parts) c.args.id (shown_chunk c.args.id.owner c.chunk_of.result.now) c.self.invariant.1 c.chunk_of.ensures.body)
