@@ -1,17 +1,14 @@
 -- Who awaits a task, behind the fields.
-use Rattle.std.proofs.Common.{◌≡◌, ℕ, ◌<◌, ◌≤◌, true, false, cond, Option, Some, None, is_some, nat_eq, refl, sym, ap, subst, ◌∙◌, inl, inr, arith, List, [], ◌∷◌, suc, zero}
+use Rattle.std.proofs.Common.{◌≡◌, ℕ, ◌<◌, ◌≤◌, true, false, Option, Some, None, is_some, refl, sym, ap, subst, ◌∙◌, arith, List, [], ◌∷◌, suc, zero}
 use Rattle.std.specs.Prelude.{slice_get, map as each, if◌then◌else◌}
 use Rattle.std.specs.List.{list_any}
 use Rattle.std.specs.Option.{option_map}
-use Rattle.std.specs.FinMap as map
 use Rattle.cht_ids.specs.declared.refs.Ref.{Ref}
 use Rattle.task_states.specs.declared.states.Awaiter.{Awaiter}
 use Rattle.task_states.specs.declared.states.Awaiter.TheVariants.{Input as AtInput, Asked}
 use Rattle.task_states.specs.declared.states.TaskStatus.TheVariants.{Waiting, Ready, Running}
-use Rattle.task_states.specs.States.{Input, Known as KnownInput, Awaits as AwaitsTask, Unfinished, Graph, is_awaiting, input_at, status, AwaitsNothing}
-use Rattle.task_states.specs.Steps.{removed}
+use Rattle.task_states.specs.States.{Input, Known as KnownInput, Awaits as AwaitsTask, Unfinished, is_awaiting, input_at, status, AwaitsNothing}
 use Rattle.task_states.specs.Awaiters.{IsAsked, IsAwaiter, IsNotAwaited, IsLeastAwaiter}
-use Rattle.task_states.proofs.Maps.{same_or_not, test_same, test_apart, same_maps, get_inserted, get_removed}
 use Rattle.task_states.proofs.Options.{not_none, same_some}
 use Rattle.task_links.specs.declared.entries.Entry.{Entry}
 use Rattle.task_links.specs.declared.entries.Link.{Link}
@@ -19,9 +16,9 @@ use Rattle.task_links.specs.declared.entries.Place.{Place}
 use Rattle.task_links.specs.declared.entries.Place.TheVariants.{Known, Awaits}
 use Rattle.task_links.specs.declared.entries.Spot.{Spot}
 use Rattle.task_graph.specs.declared.parts.Parts.{Parts}
-use Rattle.task_links.specs.Inside.{put_in, shown_entry, shown_place, entries_at, place_in, place_at, inputs_of}
+use Rattle.task_links.specs.Inside.{shown_entry, shown_place, entries_at, place_in, place_at, inputs_of}
 use Rattle.task_links.specs.Weave.{Leads, row_of, head_at, head_of, link_at, link_of}
-use Rattle.task_graph.specs.Graphs.{graph_of, IsWhole, IsIdle, with_revised}
+use Rattle.task_graph.specs.Graphs.{graph_of, IsWhole, IsLoose}
 use Rattle.task_links.proofs.Chains.{row_with, same_key}
 use Rattle.task_links.proofs.Weaving.{row_is, link_is}
 use Rattle.task_links.proofs.Writing.{awaits_behind}
@@ -133,11 +130,9 @@ module _ {K : Type 0} (parts : Parts K) (t : ℕ) (e : Entry K) (whole : IsWhole
   }
 
   -- a task that awaits nothing and that nobody awaits
-  pub idle_of : e.runner ≡ None → AwaitsNothing (graph_of parts) t → IsNotAwaited (graph_of parts) t → IsIdle parts t
-  idle_of idle waits awaited = record {
-    entry = e;
+  pub loose_of : AwaitsNothing (graph_of parts) t → IsNotAwaited (graph_of parts) t → IsLoose parts t e
+  loose_of waits awaited = record {
     there = is;
-    idle = idle;
     waits = λ p l there same. waits p.place l.task l.number (ap (λ k. input_at (graph_of parts) k p.place) (sym same) ∙ input_is parts p l (awaits_behind (place_at (entries_at parts.entries) p) l there));
     awaited = λ p l there same. awaited (AtInput p.task p.place l.number) (input_is parts p l (awaits_behind (place_at (entries_at parts.entries) p) l there) ∙ ap (λ k. Some (AwaitsTask k l.number)) same);
   }
@@ -148,46 +143,9 @@ module _ {K : Type 0} (parts : Parts K) (t : ℕ) (e : Entry K) (whole : IsWhole
       ∙ ap (λ b. if b then Waiting else (if is_some e.runner then Running else Ready)) (none_waits (inputs_of e) (λ j l at. waits j l.task l.number (input_is parts (record { task = t; place = j }) l (ap (λ o. place_in o j) is ∙ at))))
       ∙ ap (λ b. if b then Running else Ready) runs
 
--- a task that was given back first, and then goes
-pub removed_revised : {K : Type 0} (graph : Graph Ref K) (t : ℕ) (u : Unfinished Ref K) (runner asked : Option ℕ) → removed (with_revised graph t u runner asked) t ≡ removed graph t
-removed_revised graph t u runner asked =
-    let m = graph.tasks in
-    let v = record u { runner = runner; asked = asked } in
-    ap (λ tasks. record graph { tasks = tasks }) (same_maps (map.remove (map.insert m t v) t) (map.remove m t) (λ q.
-    get_removed (map.insert m t v) t q
-    ∙ elim (same_or_not q t) [
-      | inl same ↦ let test : nat_eq q t ≡ true = ap (λ r. nat_eq r t) same ∙ test_same t in ap (λ b. cond b None (map.get (map.insert m t v) q)) test ∙ sym (ap (λ b. cond b None (map.get m q)) test)
-      | inr apart ↦ ap (cond (nat_eq q t) None) (get_inserted m t v q ∙ ap (λ b. cond b (Some v) (map.get m q)) (test_apart q t apart))
-    ]
-    ∙ sym (get_removed m t q)))
-
--- given back, a task is idle
-pub revised_idle : {K : Type 0} (old new : Parts K) (t : ℕ) (e : Entry K) (asked : Option ℕ) → entries_at old.entries t ≡ Some e → ((q : ℕ) → entries_at new.entries q ≡ put_in t (record e { runner = None; asked = asked }) (entries_at old.entries) q)
-    → ((p : Spot) (l : Link) → link_at (entries_at old.entries) p ≡ Some l → p.task ≡ t → ⊥) → ((p : Spot) (l : Link) → link_at (entries_at old.entries) p ≡ Some l → l.task ≡ t → ⊥) → IsIdle new t
-revised_idle {K} old new t e asked is puts waits awaited =
-    let here : entries_at new.entries t ≡ Some (record e { runner = None; asked = asked }) = puts t ∙ ap (λ b. cond b (Some (record e { runner = None; asked = asked })) (entries_at old.entries t)) (test_same t) in
-    let links = λ (p : Spot) (l : Link) (there : link_at (entries_at new.entries) p ≡ Some l). elim (same_or_not p.task t) as (λ _. link_at (entries_at old.entries) p ≡ Some l) [
-      | inl same ↦ ap (λ o. link_of (place_in o p.place)) (ap (entries_at old.entries) same ∙ is) ∙ sym (ap (λ o. link_of (place_in o p.place)) (ap (entries_at new.entries) same ∙ here)) ∙ there
-      | inr apart ↦ sym (ap (λ o. link_of (place_in o p.place)) (puts p.task ∙ ap (λ b. cond b (Some (record e { runner = None; asked = asked })) (entries_at old.entries p.task)) (test_apart p.task t apart))) ∙ there
-    ] in
-    record {
-      entry = record e { runner = None; asked = asked };
-      there = here;
-      idle = refl;
-      waits = λ p l there. waits p l (links p l there);
-      awaited = λ p l there. awaited p l (links p l there);
-    }
-
 pub none_from : {X : Type 0} (o : Option X) → is_some o ≡ false → o ≡ None
 none_from None is = refl
 none_from (Some x) is = absurd (cc)
-
-pub idle_links : {K : Type 0} (parts : Parts K) (t : ℕ) (e : Entry K) → IsWhole parts → entries_at parts.entries t ≡ Some e → AwaitsNothing (graph_of parts) t → IsNotAwaited (graph_of parts) t
-    → ((p : Spot) (l : Link) → link_at (entries_at parts.entries) p ≡ Some l → p.task ≡ t → ⊥) × ((p : Spot) (l : Link) → link_at (entries_at parts.entries) p ≡ Some l → l.task ≡ t → ⊥)
-idle_links parts t e whole is waits awaited = (
-  λ p l there same. waits p.place l.task l.number (ap (λ k. input_at (graph_of parts) k p.place) (sym same) ∙ input_is parts p l (awaits_behind (place_at (entries_at parts.entries) p) l there)),
-  λ p l there same. awaited (AtInput p.task p.place l.number) (input_is parts p l (awaits_behind (place_at (entries_at parts.entries) p) l there) ∙ ap (λ k. Some (AwaitsTask k l.number)) same),
-)
 
 -- no two awaiters of a task have the least number
 pub one_least : {K : Type 0} (parts : Parts K) (t : ℕ) (e : Entry K) → IsWhole parts → entries_at parts.entries t ≡ Some e → (a b : Awaiter) → IsLeastAwaiter (graph_of parts) t a → IsLeastAwaiter (graph_of parts) t b → a ≡ b

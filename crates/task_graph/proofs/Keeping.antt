@@ -1,5 +1,5 @@
 -- All that holds of the fields still holds once a task comes that awaits nothing, or goes, or a caller is stopped.
-use Rattle.std.proofs.Common.{◌≡◌, ℕ, ◌≤◌, Bool, true, false, cond, ◌&&◌, ◌||◌, Option, Some, None, is_some, nat_eq, refl, sym, ap, subst, ◌∙◌, ◌⊎◌, inl, inr, arith, length}
+use Rattle.std.proofs.Common.{◌≡◌, ℕ, ◌+◌, ◌≤◌, Bool, true, false, cond, ◌&&◌, ◌||◌, Option, Some, None, is_some, nat_eq, refl, sym, ap, subst, ◌∙◌, ◌⊎◌, inl, inr, arith, length}
 use Rattle.std.specs.Prelude.{if◌then◌else◌}
 use Rattle.std.specs.List.{list_any}
 use Rattle.task_states.specs.declared.states.TaskStatus.TheVariants.{Waiting, Ready, Running}
@@ -29,7 +29,7 @@ use Rattle.task_links.specs.Weave.{Head, IsWoven, IsBeside, IsInserted, IsWithou
 use Rattle.task_links.specs.Inside.{shown_entry, shown_at, entries_at, place_in, station_at}
 use Rattle.task_links.specs.Callers.{caller_at, bounds_at, bounds_of, load_at, load_of, Load}
 use Rattle.task_links.specs.Order.{IsOrdered}
-use Rattle.task_graph.specs.Graphs.{tasks_of, graph_of, stopped_from, IsWhole, IsIdle, IsBare}
+use Rattle.task_graph.specs.Graphs.{tasks_of, graph_of, stopped_from, run_for, IsWhole, IsLoose, IsBare}
 use Rattle.task_links.proofs.Weaving.{left-woven}
 use Rattle.task_graph.proofs.Counting.{count_changed, passes}
 use Rattle.task_graph.proofs.Views.{has-stopped, flag, has_inserted, has}
@@ -82,7 +82,7 @@ pub idle_passes : {K : Type 0} (c : ℕ) (u : Unfinished Ref K) → u.runner ≡
 idle_passes c u none = not_run (nat_eq u.caller c) (list_any is_awaiting u.inputs) (is_some u.runner) (ap is_some none)
 
 -- a task that goes
-module _ {K : Type 0} (old new : Parts K) (middle : Middle K) (t : ℕ) (whole : IsWhole old) (idle : IsIdle old t) (without : IsWithout (entries_at old.entries) middle t) (beside : IsBeside middle (entries_at new.entries))
+module _ {K : Type 0} (old new : Parts K) (middle : Middle K) (t : ℕ) (whole : IsWhole old) (own : Entry K) (loose : IsLoose old t own) (without : IsWithout (entries_at old.entries) middle t) (beside : IsBeside middle (entries_at new.entries))
     (ordered : IsOrdered (bounds_at (caller_at new.callers)) (station_at (entries_at new.entries))) (load : (q : ℕ) → load_at (caller_at new.callers) q ≡ load_at (caller_at old.callers) q) (len : length new.callers.rows ≡ length old.callers.rows) where
   here_none : middle t ≡ None
   here_none = without t ∙ ap (λ b. cond b None (entries_at old.entries t)) (test_same t)
@@ -99,7 +99,7 @@ module _ {K : Type 0} (old new : Parts K) (middle : Middle K) (t : ℕ) (whole :
       ]
 
   link_new : (p : Spot) (l : Link) → link_at (entries_at old.entries) p ≡ Some l → link_at (entries_at new.entries) p ≡ Some l
-  link_new p l is = beside.links p ∙ ap (λ o. link_of (place_in o p.place)) (there_same p.task (idle.waits p l is)) ∙ is
+  link_new p l is = beside.links p ∙ ap (λ o. link_of (place_in o p.place)) (there_same p.task (loose.waits p l is)) ∙ is
 
   head_old : (q : ℕ) (h : Head) → head_at (entries_at new.entries) q ≡ Some h → (q ≡ t → ⊥) × (head_at (entries_at old.entries) q ≡ Some h)
   head_old q h is =
@@ -124,27 +124,50 @@ module _ {K : Type 0} (old new : Parts K) (middle : Middle K) (t : ℕ) (whole :
   pub taken-graph : graph_of new ≡ removed (graph_of old) t
   taken-graph = λ i. record { tasks = taken-tasks i; stopped = stopped_stays old new middle beside load len i }
 
-  pub taken-whole : IsWhole new
-  taken-whole = record {
-    woven = left-woven (head_at (entries_at old.entries)) (head_at (entries_at new.entries)) (link_at (entries_at old.entries)) (link_at (entries_at new.entries)) whole.woven (record {
-      was = λ p l is. (link_old p l is).1;
-      stays = λ p l h is _. link_new p l is;
-      home = λ p l is.
-          let o = link_old p l is in
-          let h = whole.woven.home p l o.1 in
-          (h.0, h.1, head_new p.task h.0 o.0 h.2, head_new l.task h.1 (idle.awaited p l o.1) h.3, h.4, h.5);
-      lists = λ q h is. inl (h, (head_old q h is).1, refl, refl);
-      asked_apart = λ p l q h n is there asked same. whole.woven.asked_apart p l q h n (link_old p l is).1 (head_old q h there).1 asked same;
-    });
+  pub taken-woven : IsWoven (head_at (entries_at new.entries)) (link_at (entries_at new.entries))
+  taken-woven = left-woven (head_at (entries_at old.entries)) (head_at (entries_at new.entries)) (link_at (entries_at old.entries)) (link_at (entries_at new.entries)) whole.woven (record {
+    was = λ p l is. (link_old p l is).1;
+    stays = λ p l h is _. link_new p l is;
+    home = λ p l is.
+        let o = link_old p l is in
+        let h = whole.woven.home p l o.1 in
+        (h.0, h.1, head_new p.task h.0 o.0 h.2, head_new l.task h.1 (loose.awaited p l o.1) h.3, h.4, h.5);
+    lists = λ q h is. inl (h, (head_old q h is).1, refl, refl);
+    asked_apart = λ p l q h n is there asked same. whole.woven.asked_apart p l q h n (link_old p l is).1 (head_old q h there).1 asked same;
+  })
+
+  pub taken-short : (q : ℕ) (e : Entry K) → entries_at new.entries q ≡ Some e → e.count ≤ 4
+  taken-short = short_stays old new middle beside load len (λ q e is. elim (same_or_not q t) [
+    | inl same ↦ absurd (not_none (middle q) e (ap middle same ∙ here_none) is)
+    | inr apart ↦ whole.short q e (sym (there_same q apart) ∙ is)
+  ])
+
+  -- how many tasks are Running then
+  pub taken-count : (c : ℕ) → running (graph_of new) c + run_for c (shown_entry own) ≡ running (graph_of old) c
+  taken-count c =
+      let counts = count_changed (is_run_for c) (tasks_of old.entries.tasks.entries) (tasks_of new.entries.tasks.entries) t (λ q apart. tasks_are old new middle beside load len q ∙ ap (option_map shown_entry) (there_same q apart) ∙ sym (task_is old q)) in
+      let one : passes (is_run_for c) (map.get (tasks_of old.entries.tasks.entries) t) ≡ run_for c (shown_entry own) = ap (passes (is_run_for c)) (task_there old t own loose.there) in
+      let two : passes (is_run_for c) (map.get (tasks_of new.entries.tasks.entries) t) ≡ 0 = ap (passes (is_run_for c)) (tasks_are old new middle beside load len t ∙ ap (option_map shown_entry) here_none) in
+      omega arith
+
+  -- what was kept for a caller
+  pub taken-row : (c : ℕ) (row : Caller) → caller_at new.callers c ≡ Some row → (was : Caller) × (caller_at old.callers c ≡ Some was) × (was.running ≡ row.running)
+  taken-row c row is = row_before old new middle beside load len c row is
+
+  -- a task that no worker runs
+  pub taken-whole : own.runner ≡ None → IsWhole new
+  taken-whole idle = record {
+    woven = taken-woven;
     ordered = ordered;
-    short = short_stays old new middle beside load len (λ q e is. elim (same_or_not q t) [
-      | inl same ↦ absurd (not_none (middle q) e (ap middle same ∙ here_none) is)
-      | inr apart ↦ whole.short q e (sym (there_same q apart) ∙ is)
-    ]);
+    short = taken-short;
     rows = len ∙ whole.rows;
-    counted = counted_stays old new middle beside load len whole t there_same
-        (λ c. ap (passes (is_run_for c)) (task_there old t idle.entry idle.there) ∙ idle_passes c (shown_entry idle.entry) idle.idle)
-        (λ c. ap (passes (is_run_for c)) (tasks_are old new middle beside load len t ∙ ap (option_map shown_entry) here_none));
+    counted = λ c row is.
+        let b = taken-row c row is in
+        let counts = taken-count c in
+        let none : run_for c (shown_entry own) ≡ 0 = idle_passes c (shown_entry own) idle in
+        let was = whole.counted c b.0 b.1 in
+        let same = b.2 in
+        omega arith;
   }
 
 -- a task that comes and awaits nothing

@@ -5,6 +5,7 @@ mod Strangers
 mod Cleaning
 mod Counting
 mod FirstInputs
+mod Going
 mod Keeping
 mod Marking
 mod Moves

@@ -22,7 +22,7 @@ module _ {K : Type 0} (old new : Parts K) (t : ℕ) (e : Entry K) (runner : Opti
     (own : e.caller ≡ caller) (revised : IsRevised old t e runner e.asked count)
     (writes : (q : ℕ) → entries_at new.entries q ≡ option_map (with_runner_at q t runner) (entries_at old.entries q))
     (rows : (q : ℕ) → caller_at new.callers q ≡ option_map (with_running_at q caller count) (caller_at old.callers q)) (len : length new.callers.rows ≡ length old.callers.rows) where
-  pub run-at : (q : ℕ) → entries_at new.entries q ≡ put_in t (record e { runner = runner }) (entries_at old.entries) q
+  run-at : (q : ℕ) → entries_at new.entries q ≡ put_in t (record e { runner = runner }) (entries_at old.entries) q
   run-at = runner_put (entries_at old.entries) (entries_at new.entries) t runner e is writes
 
   own_rows : (q : ℕ) → caller_at new.callers q ≡ option_map (with_running_at q e.caller count) (caller_at old.callers q)

@@ -61,11 +61,9 @@ module _ {K : Type 0} where
     pub counted : (row : Caller) → caller_at parts.callers entry.caller ≡ Some row
         → running + run_for entry.caller (shown_entry entry) ≡ row.running + run_for entry.caller (record (shown_entry entry) { runner = runner; asked = asked })
 
-  -- a task that no worker runs, that awaits nothing and that nobody awaits
-  pub record IsIdle (parts : Parts K) (task : ℕ) : Type 0 where
-    pub entry : Entry K
+  -- a task that awaits nothing and that nobody awaits
+  pub record IsLoose (parts : Parts K) (task : ℕ) (entry : Entry K) : Type 0 where
     pub there : entries_at parts.entries task ≡ Some entry
-    pub idle : entry.runner ≡ None
     pub waits : (spot : Spot) (link : Link) → link_at (entries_at parts.entries) spot ≡ Some link → spot.task ≡ task → ⊥
     pub awaited : (spot : Spot) (link : Link) → link_at (entries_at parts.entries) spot ≡ Some link → link.task ≡ task → ⊥
 

@@ -11,6 +11,7 @@ ghost use Rattle.task_links.specs.Weave.{head_at, link_at, IsFirst, IsUntied, Is
 ghost use Rattle.task_graph.specs.Contents.{AreOfOneCaller, IsAskedOnce};
 ghost use Rattle.task_graph.specs.Moving.{IsMovable, IsMoved};
 ghost use Rattle.task_states.specs.declared.states.Awaiter.{Awaiter as AnyAwaiter};
+ghost use Rattle.task_links.specs.declared.entries.Link.{Link as AnyLink};
 ghost use Rattle.task_links.specs.declared.entries.Spot.{Spot as AnySpot};
 ghost use Rattle.task_states.specs.Awaiters.{IsNotAwaited, IsAwaiterFound, IsLeastAwaiter, IsRunnable};
 ghost use Rattle.task_graph.specs.Graphs.{graph_of, IsWhole};
@@ -178,38 +179,33 @@ impl<K: Copy> Parts<K> {
         }
     }
 
-    // The first input that awaits a task, if one does.
-    fn first(&self, task: u128) -> Option<Spot>
-        requires { IsSome (entries_at self.now.entries task) }
-        ensures { (head : AnyHead) → head_at (entries_at self.now.entries) task ≡ Some head → result ≡ head.first }
-    {
-        let kept = self.entries.look(task);
-        kept.first()
-    }
-
-    // The first input that awaits one task awaits another of the same caller.
-    fn move_first(&mut self, spot: Spot, to: u128)
+    // The first input that awaits one task awaits another of the same caller. Answers which is the first then.
+    fn move_first(&mut self, spot: Spot, to: u128) -> Option<Spot>
         requires whole { IsWhole self.old }
         requires movable { IsMovable self.old spot to }
         ensures whole { IsWhole self.new }
         ensures moved { IsMoved self.old self.new spot to }
+        ensures next { (link : AnyLink) (head : AnyHead) → link_at (entries_at self.old.entries) spot ≡ Some link → (link.task ≡ to → ⊥) → head_at (entries_at self.new.entries) link.task ≡ Some head → result ≡ head.first }
         ensures size { IsSameSize self.old.entries self.new.entries }
     {
         let settled = self.settle(spot, Ref::Null);
         self.join(spot, to, settled.0.number);
+        settled.0.next
     }
 
-    // All inputs that await one task await another.
-    fn move_all(&mut self, task: u128, to: u128)
+    // All inputs that await one task, from the first on, await another.
+    fn move_all(&mut self, task: u128, to: u128, first: Option<Spot>)
         requires whole { IsWhole self.old }
         requires callers { AreOfOneCaller (graph_of self.old) task to }
         requires apart { task ≡ to → ⊥ }
+        requires first { (head : AnyHead) → head_at (entries_at self.old.entries) task ≡ Some head → first ≡ head.first }
         ensures whole { IsWhole self.new }
         ensures graph { graph_of self.new ≡ inputs_redirected (graph_of self.old) task to }
         ensures size { IsSameSize self.old.entries self.new.entries }
     {
-        while let Some(spot) = self.first(task) {
-            self.move_first(spot, to);
+        let mut next = first;
+        while let Some(spot) = next {
+            next = self.move_first(spot, to);
         }
     }
 
@@ -223,8 +219,10 @@ impl<K: Copy> Parts<K> {
         ensures graph { graph_of self.new ≡ forwarded (graph_of self.old) task to }
         ensures size { IsSameSize self.old.entries self.new.entries }
     {
-        let asked = self.entries.look(task).asked();
-        self.move_all(task, to);
+        let kept = self.entries.look(task);
+        let asked = kept.asked();
+        let first = kept.first();
+        self.move_all(task, to, first);
         if let Some(number) = asked {
             self.ask(to, number);
             self.unask(task);

@@ -11,7 +11,7 @@ ghost use Rattle.task_links.specs.declared.entries.Link.{Link as AnyLink};
 ghost use Rattle.task_states.specs.States.{task_at, AwaitsNothing};
 ghost use Rattle.task_states.specs.Awaiters.{IsNotAwaited};
 ghost use Rattle.task_states.specs.Steps.{removed, added};
-ghost use Rattle.task_graph.specs.Graphs.{graph_of, IsWhole, IsIdle, IsBare};
+ghost use Rattle.task_graph.specs.Graphs.{graph_of, IsWhole, IsBare};
 
 use cht_ids::Memory;
 use task_links::{Caller, Callers, Entries, Entry};
@@ -146,12 +146,13 @@ impl<K: Copy> Parts<K> {
         self.lead_back(entry.caller, after, Some(task));
     }
 
-    /// Takes a task out from those of its caller.
-    pub fn take(&mut self, task: u128)
+    /// Takes a task out from those of its caller. Answers what was kept of it.
+    pub fn take(&mut self, task: u128) -> Entry<K>
         requires ordered { IsOrdered (bounds_at (caller_at self.old.callers)) (station_at (entries_at self.old.entries)) }
         requires there { IsSome (entries_at self.old.entries task) }
         requires callers { (q : ℕ) → IsSome (bounds_at (caller_at self.old.callers) q) → q < 64 }
         ensures ordered { IsOrdered (bounds_at (caller_at self.new.callers)) (station_at (entries_at self.new.entries)) }
+        ensures entry { entries_at self.old.entries task ≡ Some result }
         ensures beside { (middle : Middle K) × IsWithout (entries_at self.old.entries) middle task × IsBeside middle (entries_at self.new.entries) }
         ensures load { (q : ℕ) → load_at (caller_at self.new.callers) q ≡ load_at (caller_at self.old.callers) q }
         ensures rows { length self.new.callers.rows ≡ length self.old.callers.rows }
@@ -161,18 +162,7 @@ impl<K: Copy> Parts<K> {
         let entry = self.entries.remove(task);
         self.lead_on(entry.caller, entry.before, entry.after);
         self.lead_back(entry.caller, entry.after, entry.before);
-    }
-
-    // A task goes that no worker runs, that awaits nothing and that nobody awaits.
-    fn take_idle(&mut self, task: u128)
-        requires whole { IsWhole self.old }
-        requires idle { IsIdle self.old task }
-        ensures whole { IsWhole self.new }
-        ensures graph { graph_of self.new ≡ removed (graph_of self.old) task }
-        ensures len { hash_map_len self.new.entries.tasks + 1 ≡ hash_map_len self.old.entries.tasks }
-        ensures room { room_of self.old.entries ≤ room_of self.new.entries }
-    {
-        self.take(task);
+        entry
     }
 
     /// A task that awaits nothing, and that nobody awaits, goes.
@@ -186,12 +176,10 @@ impl<K: Copy> Parts<K> {
         ensures len { hash_map_len self.new.entries.tasks + 1 ≡ hash_map_len self.old.entries.tasks }
         ensures room { room_of self.old.entries ≤ room_of self.new.entries }
     {
-        let runner = self.entries.look(task).runner;
-        if runner.is_some() {
-            self.give_back(task);
-            self.take_idle(task);
-        } else {
-            self.take_idle(task);
+        let entry = self.take(task);
+        if entry.runner.is_some() {
+            let row = self.callers.get(entry.caller);
+            self.count(entry.caller, row.running - 1);
         }
     }
 

@@ -2,13 +2,12 @@
 ghost use Rattle.std.specs.Prelude.{◌≡◌, ◌<◌, ◌+◌, ℕ, Some, None, IsSome, IsTrue, ◌↔◌, ◌^◌, length, Option};
 ghost use Rattle.std.specs.Option.{option_map};
 ghost use Rattle.std.specs.HashMap.{hash_map_len};
-ghost use Rattle.task_links.specs.Inside.{entries_at, put_in, IsSameSize};
+ghost use Rattle.task_links.specs.Inside.{entries_at, IsSameSize};
 ghost use Rattle.task_links.specs.Callers.{caller_at, with_running_at};
 ghost use Rattle.task_links.specs.Weave.{link_at, IsUnused};
 ghost use Rattle.task_states.specs.declared.states.TaskStatus.TheVariants.{Ready, Running};
 ghost use Rattle.task_states.specs.States.{task_at, status};
 ghost use Rattle.task_states.specs.Steps.{started, given_back, with_asked, without_asked, with_stopped};
-ghost use Rattle.task_links.specs.declared.entries.Entry.{Entry as AnyEntry};
 ghost use Rattle.task_graph.specs.Graphs.{graph_of, IsWhole};
 ghost use Rattle.task_states.specs.Awaiters.{IsRunnable};
 ghost use Rattle.task_graph.specs.Adding.{can_run_with};
@@ -64,8 +63,8 @@ impl<K: Copy> Parts<K> {
         }
     }
 
-    // Counts one Running task more, or one less, for a caller.
-    fn count(&mut self, caller: u32, running: u32)
+    /// Counts one Running task more, or one less, for a caller.
+    pub fn count(&mut self, caller: u32, running: u32)
         requires { caller < 64 }
         ensures entries { self.new.entries ≡ self.old.entries }
         ensures callers { (q : ℕ) → caller_at self.new.callers q ≡ option_map (with_running_at q caller running) (caller_at self.old.callers q) }
@@ -95,8 +94,6 @@ impl<K: Copy> Parts<K> {
         requires whole { IsWhole self.old }
         requires running { status (graph_of self.old) task ≡ Running }
         ensures whole { IsWhole self.new }
-        ensures at { (entry : AnyEntry K) → entries_at self.old.entries task ≡ Some entry
-            → (q : ℕ) → entries_at self.new.entries q ≡ put_in task (record entry { runner = None }) (entries_at self.old.entries) q }
         ensures graph { graph_of self.new ≡ given_back (graph_of self.old) task }
         ensures size { IsSameSize self.old.entries self.new.entries }
     {

@@ -3,7 +3,7 @@ use Rattle.task_states.specs.declared.states.TaskStatus.TheVariants.{Running}
 use Rattle.task_links.specs.Callers.{caller_at}
 use Rattle.task_links.specs.Inside.{entries_at}
 use Rattle.task_graph.proofs.Marking.{entry_of_status, some_of_status, back_revised, back_some}
-use Rattle.task_graph.proofs.Runners.{caller_is, run-at, run-whole, run-graph}
+use Rattle.task_graph.proofs.Runners.{caller_is, run-whole, run-graph}
 use Rattle.task_graph.proofs.Runs.{caller_low}
 use Rattle.task_graph.proofs.parts.Parts.give_back.Goals as goal
 
@@ -38,12 +38,4 @@ returns-clause-graph g c =
     let row : caller_at c.args.self.now.callers e.0.caller ≡ Some c.get-row.result = ap (caller_at c.args.self.now.callers) own ∙ c.get-row.ensures in
     run-graph c.args.self.now c.count.new.self c.args.task e.0 None c.set_runner-caller.result (c.get-row.result.running - 1) c.requires.whole e.1 own
     (back_revised c.args.self.now c.args.task e.0 c.get-row.result c.requires.whole e.1 row c.requires.running (back_some c.args.self.now c.args.task e.0 c.get-row.result c.requires.whole e.1 row c.requires.running))
-    (λ q. ap (λ es. entries_at es q) c.count.ensures.entries ∙ c.set_runner-caller.ensures.at q) c.count.ensures.callers c.count.ensures.len
-
-pub returns-clause-at : goal.returns-clause-at
-returns-clause-at g c = λ entry is.
-    let own = caller_is (entries_at c.args.self.now.entries c.args.task) entry c.set_runner-caller.result is c.set_runner-caller.ensures.caller in
-    let row : caller_at c.args.self.now.callers entry.caller ≡ Some c.get-row.result = ap (caller_at c.args.self.now.callers) own ∙ c.get-row.ensures in
-    run-at c.args.self.now c.count.new.self c.args.task entry None c.set_runner-caller.result (c.get-row.result.running - 1) c.requires.whole is own
-    (back_revised c.args.self.now c.args.task entry c.get-row.result c.requires.whole is row c.requires.running (back_some c.args.self.now c.args.task entry c.get-row.result c.requires.whole is row c.requires.running))
     (λ q. ap (λ es. entries_at es q) c.count.ensures.entries ∙ c.set_runner-caller.ensures.at q) c.count.ensures.callers c.count.ensures.len

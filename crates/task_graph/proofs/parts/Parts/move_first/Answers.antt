@@ -1,5 +1,6 @@
-use Rattle.std.proofs.Common.{ℕ, ap, sym, ◌∙◌, refl}
+use Rattle.std.proofs.Common.{ℕ, ap, sym, ◌∙◌, refl, inl, inr}
 use Rattle.std.specs.Option.{option_map}
+use Rattle.task_states.proofs.Options.{same_some}
 use Rattle.task_states.specs.States.{Known, Awaits}
 use Rattle.cht_ids.specs.declared.refs.Ref.TheVariants.{Null}
 use Rattle.task_links.specs.declared.entries.Link.{Link}
@@ -36,3 +37,18 @@ returns-clause-moved g c =
       tasks = writes.1;
       own = writes.2;
     }
+
+pub returns-clause-next : goal.returns-clause-next
+returns-clause-next g c = λ link head is apart at.
+    let one = same_some c.settle-settled.result.0 link (sym c.settle-settled.ensures.link ∙ is) in
+    let task = ap (λ (l : Link). l.task) one in
+    let tied = c.join.ensures.tied in
+    let joined = tied.2.heads_from link.task head at in
+    let untied = c.settle-settled.ensures.untied.heads_from link.task joined.0 joined.1 in
+    elim untied.5 [
+      | inl gone ↦ elim joined.2.first [
+        | inl new ↦ absurd (apart new.0)
+        | inr stays ↦ sym (stays.1 ∙ gone.2)
+      ]
+      | inr other ↦ absurd (other.0 (sym task))
+    ]
