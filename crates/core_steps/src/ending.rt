@@ -1,14 +1,17 @@
 // The end of a task that is finished, and which of its new tasks can be run at once.
 ghost use Rattle.std.specs.Prelude.{◌≡◌, ℕ, ◌+◌, ◌≤◌, ◌++◌, length, IsSome, vec_len, vec_capacity};
-ghost use Rattle.std.specs.List.{list_any};
+ghost use Rattle.std.specs.List.{list_any, filter};
+ghost use Rattle.cht_ids.specs.declared.refs.Ref.{Ref as AnyRef};
+ghost use Rattle.task_types.specs.declared.outcome.Place.{Place as AnyPlace};
 ghost use Rattle.task_types.specs.Places.{places_of};
 ghost use Rattle.name_states.specs.Reached.{swept};
 ghost use Rattle.name_states.specs.Rules.{AreWithin};
-ghost use Rattle.task_states.specs.States.{task_at, AwaitsNothing};
+ghost use Rattle.task_states.specs.States.{Graph, task_at, AwaitsNothing};
 ghost use Rattle.task_states.specs.Awaiters.{IsNotAwaited};
 ghost use Rattle.task_states.specs.Steps.{removed};
 ghost use Rattle.name_machine.specs.Control.{is_held_by, without_ids};
-ghost use Rattle.core_steps.specs.Ending.{names_task, any_of, idle_number, idle_numbers, IsDeletable, AreDeletable, deleted_ref, deleted_refs, HoldsExactly};
+ghost use Rattle.name_machine.specs.NewTasks.{task_numbers, with_tasks};
+ghost use Rattle.core_steps.specs.Ending.{is_ready_in, names_task, any_of, idle_number, idle_numbers, IsDeletable, AreDeletable, deleted_ref, deleted_refs, HoldsExactly};
 
 use crate::reading::nth_place;
 use cht_ids::{Ref, TaskNo};
@@ -117,9 +120,8 @@ fn list_if_idle<K: Copy>(task: &NewTask<K>, number: TaskNo, ready: &mut Vec<Task
     ready.push_reserved(number);
 }
 
-/// Those among new tasks with these numbers that await nothing, in order, added to `ready`, which has room for all of them: once all are
-/// there, these are Ready. No task is looked up.
-pub fn list_idle<K: Copy>(tasks: &[NewTask<K>], numbers: &[TaskNo], ready: &mut Vec<TaskNo>)
+// Those among new tasks with these numbers that await nothing, in order, added to `ready`.
+fn list_each<K: Copy>(tasks: &[NewTask<K>], numbers: &[TaskNo], ready: &mut Vec<TaskNo>)
     requires { vec_len ready.old + length numbers.now ≤ vec_capacity ready.old }
     ensures ready { ready.new.items ≡ ready.old.items ++ idle_numbers tasks.now numbers.now }
     ensures len { vec_len ready.new ≤ vec_len ready.old + length numbers.now }
@@ -135,4 +137,17 @@ pub fn list_idle<K: Copy>(tasks: &[NewTask<K>], numbers: &[TaskNo], ready: &mut 
         left = later;
         unread = behind;
     }
+}
+
+/// Those among new tasks that are Ready once all of them are there, in order, added to `ready`, which has room for all. The numbers are
+/// those of the tasks. A new task is Ready where it awaits nothing, so that none is looked up.
+pub fn list_idle<K: Copy>(tasks: &[NewTask<K>], numbers: &[TaskNo], ready: &mut Vec<TaskNo>)
+    requires { vec_len ready.old + length numbers.now ≤ vec_capacity ready.old }
+    ensures idle { ready.new.items ≡ ready.old.items ++ idle_numbers tasks.now numbers.now }
+    ensures ready { (value : AnyPlace → ℕ → AnyRef) (caller drawn : ℕ) (graph : Graph AnyRef K) → numbers.now ≡ task_numbers drawn tasks.now
+        → ready.new.items ≡ ready.old.items ++ filter (is_ready_in (with_tasks value numbers.now caller drawn tasks.now graph)) numbers.now }
+    ensures len { vec_len ready.new ≤ vec_len ready.old + length numbers.now }
+    ensures capacity { vec_capacity ready.new ≡ vec_capacity ready.old }
+{
+    list_each(tasks, numbers, ready);
 }

@@ -191,7 +191,7 @@ sort_ready-requires g c =
     c.register_chunks.ensures.names c.register_chunks.ensures.drawn c.register_chunks.ensures.made c.read_place-output.ensures.value
     c.add_tasks.ensures.names c.add_tasks.ensures.drawn c.add_tasks.ensures.graph (c.deref-7.ensures.value ∙ c.add_tasks.ensures.numbers) c.requires.space.caller in
     let listed =
-    c.list_idle.ensures.ready ∙ (λ i. c.requires.empty i
+    c.list_idle.ensures.idle ∙ (λ i. c.requires.empty i
     ++ idle_listed (λ place number. with_number (ref_named c.register_chunks.new.names.names c.deref-4.result.now c.deref-5.result.now place) number)
     (task_numbers c.register_chunks.new.counter c.args.tasks.now) c.args.space.now.caller c.register_chunks.new.counter c.args.tasks.now
     c.args.graph.now.graph c.add_tasks.new.graph.graph c.deref-6.result.now c.deref-7.result.now
@@ -238,7 +238,7 @@ returns-clause-ready g c =
     c.register_chunks.ensures.names c.register_chunks.ensures.drawn c.register_chunks.ensures.made c.read_place-output.ensures.value
     c.add_tasks.ensures.names c.add_tasks.ensures.drawn c.add_tasks.ensures.graph (c.deref-7.ensures.value ∙ c.add_tasks.ensures.numbers) c.requires.space.caller in
     let listed =
-    c.list_idle.ensures.ready ∙ (λ i. c.requires.empty i
+    c.list_idle.ensures.idle ∙ (λ i. c.requires.empty i
     ++ idle_listed (λ place number. with_number (ref_named c.register_chunks.new.names.names c.deref-4.result.now c.deref-5.result.now place) number)
     (task_numbers c.register_chunks.new.counter c.args.tasks.now) c.args.space.now.caller c.register_chunks.new.counter c.args.tasks.now
     c.args.graph.now.graph c.add_tasks.new.graph.graph c.deref-6.result.now c.deref-7.result.now

@@ -1,6 +1,6 @@
 use Rattle.std.proofs.Common.{◌≡◌, ◌+◌, ◌≤◌, ◌++◌, length, vec_len, vec_capacity}
 use Rattle.core_steps.specs.Ending.{idle_numbers}
-use Rattle.core_steps.proofs.ending.list_idle.Given as goal
+use Rattle.core_steps.proofs.ending.list_each.Given as goal
 
 abbrev pub decreases-loop-task : goal.decreases-loop-task
 decreases-loop-task g l = length l.left
