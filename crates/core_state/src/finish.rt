@@ -28,9 +28,7 @@ use crate::state::CoreState;
 use cht_history::Event;
 use cht_ids::{Counter, List, Memory, Ref, TaskNo};
 use chunk_refs::Refs;
-use core_steps::{
-    add_tasks, end_task, list_ready, read_place, register_chunks, renumbered, settle,
-};
+use core_steps::{add_tasks, end_task, list_idle, read_place, register_chunks, renumbered, settle};
 use std::alloc::Global;
 use task_graph::{TaskRow, Tasks};
 use task_states::Slot;
@@ -304,7 +302,7 @@ fn take_effect<C: Payload, K: Copy>(
         tasks,
         &mut space.numbers,
     );
-    list_ready(graph, &space.numbers, &mut ready);
+    list_idle(tasks, &space.numbers, &mut ready);
     resolve(
         names,
         graph,

@@ -5,6 +5,7 @@ mod Endings
 pub mod Course
 pub mod Exact
 pub mod Handed
+pub mod Idle
 pub mod Newly
 pub mod EndOfFinish
 pub mod Holding

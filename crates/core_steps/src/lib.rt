@@ -10,7 +10,7 @@ mod settling;
 mod tasks;
 
 pub use chunks::register_chunks;
-pub use ending::{end_task, list_ready};
+pub use ending::{end_task, list_idle};
 pub use inputs::hold_input;
 pub use reading::read_place;
 pub use settling::{renumbered, settle};

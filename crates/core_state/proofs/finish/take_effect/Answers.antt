@@ -1,7 +1,8 @@
 use Rattle.std.proofs.Common.{◌≡◌, ◌++◌, length, refl, sym, ap, subst, ◌∙◌, arith}
-use Rattle.std.specs.List.{filter}
 use Rattle.task_types.specs.declared.outcome.Outcome.{Outcome}
-use Rattle.core_steps.specs.Ending.{is_ready_in}
+use Rattle.name_machine.specs.NewTasks.{task_numbers}
+use Rattle.name_machine.specs.Control.{with_number, ref_named}
+use Rattle.core_steps.proofs.Idle.{idle_listed}
 use Rattle.core_steps.proofs.ChunksFormed.{chunks_can_grow}
 use Rattle.core_steps.proofs.ReadyForTasks.{graph_within}
 use Rattle.core_steps.proofs.EndOfFinish.{MayEnd}
@@ -31,8 +32,8 @@ add_tasks-requires-clause-unfinished g c κs within =
     (grown_up g.C.Payload.arity control c.args.w c.args.task c.requires.can.0 outcome c.requires.can.1 c.deref.result.now c.register_chunks.new.counter
     (c.deref.ensures.value ∙ c.requires.space.inputs c.requires.can.0 c.requires.can.1.there) c.register_chunks.ensures.drawn)
 
-pub list_ready-requires : goal.list_ready-requires
-list_ready-requires g c =
+pub list_idle-requires : goal.list_idle-requires
+list_idle-requires g c =
     let outcome : Outcome g.row.C.Denot g.row.K.Denot = record { chunks = c.args.chunks; tasks = c.args.tasks.now; result = c.args.place } in
     let control = control_of c.args.counter.now c.args.names.now.names c.args.asks.now.asks c.args.graph.now.graph in
     let tasked =
@@ -125,8 +126,8 @@ resolve-requires-clause-capacity g c κs within =
     let same : length c.deref-6.result.now ≡ length c.add_tasks.new.numbers.items = ap length c.deref-6.ensures.value in
     let none : length c.args.ready.items ≡ 0 = ap length c.requires.empty in
     let all = c.requires.capacity in
-    let len = c.list_ready.ensures.len in
-    let capacity = c.list_ready.ensures.capacity in
+    let len = c.list_idle.ensures.len in
+    let capacity = c.list_idle.ensures.capacity in
     omega arith
 
 pub resolve-requires-clause-forward : goal.resolve-requires-clause-forward
@@ -190,16 +191,20 @@ sort_ready-requires g c =
     c.register_chunks.ensures.names c.register_chunks.ensures.drawn c.register_chunks.ensures.made c.read_place-output.ensures.value
     c.add_tasks.ensures.names c.add_tasks.ensures.drawn c.add_tasks.ensures.graph (c.deref-7.ensures.value ∙ c.add_tasks.ensures.numbers) c.requires.space.caller in
     let listed =
-    c.list_ready.ensures.ready ∙ (λ i. c.requires.empty i ++ filter (is_ready_in c.add_tasks.new.graph.graph) ((c.deref-6.ensures.value ∙ sym c.deref-7.ensures.value) i)) in
+    c.list_idle.ensures.idle ∙ (λ i. c.requires.empty i
+    ++ idle_listed (λ place number. with_number (ref_named c.register_chunks.new.names.names c.deref-4.result.now c.deref-5.result.now place) number)
+    (task_numbers c.register_chunks.new.counter c.args.tasks.now) c.args.space.now.caller c.register_chunks.new.counter c.args.tasks.now
+    c.args.graph.now.graph c.add_tasks.new.graph.graph c.deref-6.result.now c.deref-7.result.now
+    c.add_tasks.ensures.graph (c.deref-7.ensures.value ∙ c.add_tasks.ensures.numbers) (c.deref-6.ensures.value ∙ sym c.deref-7.ensures.value) i) in
     c.resolve.ensures.distinct
     (ready_distinct g.C.Payload.arity control c.args.w c.args.task c.requires.can.0 outcome c.requires.can.1
     c.add_tasks.new.names.names c.add_tasks.new.counter c.add_tasks.new.graph.graph c.deref-7.result.now c.read_place-output.result c.args.space.now.inputs.items c.register_chunks.new.made.items tasked
     c.resolve.new.names.names c.resolve.new.asks.asks c.resolve.new.graph.graph c.resolve.ensures.resolved
-    c.list_ready.new.ready.items c.resolve.new.ready.items listed c.resolve.ensures.ready)
+    c.list_idle.new.ready.items c.resolve.new.ready.items listed c.resolve.ensures.ready)
     (none_waits g.C.Payload.arity control c.args.w c.args.task c.requires.can.0 outcome c.requires.can.1
     c.add_tasks.new.names.names c.add_tasks.new.counter c.add_tasks.new.graph.graph c.deref-7.result.now c.read_place-output.result c.args.space.now.inputs.items c.register_chunks.new.made.items tasked
     c.resolve.new.names.names c.resolve.new.asks.asks c.resolve.new.graph.graph c.resolve.ensures.resolved
-    c.list_ready.new.ready.items c.resolve.new.ready.items listed c.resolve.ensures.ready)
+    c.list_idle.new.ready.items c.resolve.new.ready.items listed c.resolve.ensures.ready)
 
 pub returns-clause-effect : goal.returns-clause-effect
 returns-clause-effect g c =
@@ -233,9 +238,13 @@ returns-clause-ready g c =
     c.register_chunks.ensures.names c.register_chunks.ensures.drawn c.register_chunks.ensures.made c.read_place-output.ensures.value
     c.add_tasks.ensures.names c.add_tasks.ensures.drawn c.add_tasks.ensures.graph (c.deref-7.ensures.value ∙ c.add_tasks.ensures.numbers) c.requires.space.caller in
     let listed =
-    c.list_ready.ensures.ready ∙ (λ i. c.requires.empty i ++ filter (is_ready_in c.add_tasks.new.graph.graph) ((c.deref-6.ensures.value ∙ sym c.deref-7.ensures.value) i)) in
+    c.list_idle.ensures.idle ∙ (λ i. c.requires.empty i
+    ++ idle_listed (λ place number. with_number (ref_named c.register_chunks.new.names.names c.deref-4.result.now c.deref-5.result.now place) number)
+    (task_numbers c.register_chunks.new.counter c.args.tasks.now) c.args.space.now.caller c.register_chunks.new.counter c.args.tasks.now
+    c.args.graph.now.graph c.add_tasks.new.graph.graph c.deref-6.result.now c.deref-7.result.now
+    c.add_tasks.ensures.graph (c.deref-7.ensures.value ∙ c.add_tasks.ensures.numbers) (c.deref-6.ensures.value ∙ sym c.deref-7.ensures.value) i) in
     newly_ready g.C.Payload.arity control c.args.w c.args.task c.requires.can.0 outcome c.requires.can.1
     c.add_tasks.new.names.names c.add_tasks.new.counter c.add_tasks.new.graph.graph c.deref-7.result.now c.read_place-output.result c.args.space.now.inputs.items c.register_chunks.new.made.items tasked
     c.resolve.new.names.names c.resolve.new.asks.asks c.resolve.new.graph.graph c.resolve.ensures.resolved
-    c.list_ready.new.ready.items c.resolve.new.ready.items listed c.resolve.ensures.ready
+    c.list_idle.new.ready.items c.resolve.new.ready.items listed c.resolve.ensures.ready
     c.end_task.new.graph.graph c.sort_ready.new.ready.items c.end_task.ensures.graph c.sort_ready.ensures.rise c.sort_ready.ensures.same
