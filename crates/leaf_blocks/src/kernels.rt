@@ -25,7 +25,9 @@ pub fn add_scaled(row: &mut [i128], factor: i128, other: &[i128])
 }
 
 // Adds to a row the terms of the factors from one number up to another, which is not among them: each is the factor times its row of
-// the other matrix. The row has the sums of the terms before them.
+// the other matrix. The row has the sums of the terms before them. It stays a function of its own, so that its addresses are not
+// computed where factors are passed over.
+#[inline(never)]
 fn add_terms(row: &mut [i128], factors: &[i128], other: &[i128], from: usize, to: usize)
     requires full { length other.now ≡ length factors.now * length row.old }
     requires order { from ≤ to }
@@ -272,6 +274,7 @@ fn peak_unless_zero(numbers: &[i128], least: u128) -> u128
 }
 
 // The greatest of a number and the absolute values of some others.
+#[inline(never)]
 fn peak_with(numbers: &[i128], least: u128) -> u128
     ensures above { All (λ z. unsigned_abs z ≤ result) numbers.now }
     ensures more { least ≤ result }
