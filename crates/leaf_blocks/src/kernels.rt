@@ -251,26 +251,33 @@ pub fn peak_of(numbers: &[i128]) -> u128
     let mut rest = numbers;
     while rest.len() >= PASSED {
         let (some, others) = rest.split_at(PASSED);
-        peak = peak_unless_zero(some, peak);
+        peak = peak_unless_within(some, peak);
         rest = others;
     }
     peak_with(rest, peak)
 }
 
-// How many numbers are passed over at once where all of them are 0.
+// How many numbers are passed over at once: factors where all of them are 0, and numbers of which none is above the peak so far.
 const PASSED: usize = 8;
 
-// The greatest of a number and the absolute values of some others, which are looked at once more where one of them is not 0.
-fn peak_unless_zero(numbers: &[i128], least: u128) -> u128
+// The greatest of a number and the absolute values of some others, which are looked at once more where one of them is above it.
+fn peak_unless_within(numbers: &[i128], least: u128) -> u128
     ensures above { All (λ z. unsigned_abs z ≤ result) numbers.now }
     ensures more { least ≤ result }
     ensures least { (bound : ℕ) → least ≤ bound → All (λ z. unsigned_abs z ≤ bound) numbers.now → result ≤ bound }
 {
-    if are_zero(numbers) {
+    if are_within(numbers, least) {
         least
     } else {
         peak_with(numbers, least)
     }
+}
+
+// Whether no absolute value is above the bound.
+fn are_within(numbers: &[i128], bound: u128) -> bool
+    ensures { IsTrue result ↔ All (λ z. unsigned_abs z ≤ bound) numbers.now }
+{
+    numbers.iter().all(|x| x.unsigned_abs() <= bound)
 }
 
 // The greatest of a number and the absolute values of some others.

@@ -25,11 +25,11 @@ loop-rest-preserved c =
     let some = c.split_at.result.0.now in
     let others = c.split_at.result.1.now in
     let old = c.loop-rest.peak in
-    let new = c.peak_unless_zero-peak.result in
+    let new = c.peak_unless_within-peak.result in
     let parts : c.loop-rest.rest.now ≡ some ++ others = sym (take-append-drop 8 c.loop-rest.rest.now) ∙ ap₂ (λ (xs ys : List ℤ). xs ++ ys) (sym c.split_at.ensures.front) (sym c.split_at.ensures.back) in
     let whole : c.args.numbers.now ≡ (front ++ some) ++ others = c.loop-rest.invariant.0.1 ∙ ap (λ (r : List ℤ). front ++ r) parts ∙ sym (append_assoc front some others) in (
-      (front ++ some, whole, All-append (λ z. unsigned_abs z ≤ new) front some (within_more front old new c.peak_unless_zero-peak.ensures.more c.loop-rest.invariant.0.2) c.peak_unless_zero-peak.ensures.above),
-      λ bound are. c.peak_unless_zero-peak.ensures.least bound (c.loop-rest.invariant.1 bound are)
+      (front ++ some, whole, All-append (λ z. unsigned_abs z ≤ new) front some (within_more front old new c.peak_unless_within-peak.ensures.more c.loop-rest.invariant.0.2) c.peak_unless_within-peak.ensures.above),
+      λ bound are. c.peak_unless_within-peak.ensures.least bound (c.loop-rest.invariant.1 bound are)
           (first_within some others bound (front_within front (some ++ others) bound (subst (λ ns. All (λ z. unsigned_abs z ≤ bound) ns) (whole ∙ append_assoc front some others) are))),
     )
 
