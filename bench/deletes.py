@@ -9,7 +9,7 @@ import subprocess
 import sys
 import tempfile
 
-from parts import PROGRAM, best_run
+from parts import PROGRAM, best_runs
 from sums import BANNER, band
 
 SIDE, LEAF, WIDTH = 250, 16, 20
@@ -37,7 +37,7 @@ def main():
             known = None
             for sums in SUMS:
                 subprocess.run([sys.executable, __file__, "make", source, str(sums), str(int(deleted))], check=True)
-                spent, peak = best_run([PROGRAM, "plain"], source, target)
+                [(spent, peak)] = best_runs(([PROGRAM, "plain"], source, target))
                 with open(target) as taken:
                     if taken.read() != f"{SIDE * (sums + 1)}\n":
                         sys.exit("the program writes another trace")

@@ -2,7 +2,7 @@
 """Times a journal of 1,000,000 events, read and written again, against a plain C++ program that does the same.
 
 Copies the crates to a temporary folder, adds there a small program made of the file in bench/journal_bench, has it proved and
-built, builds bench/journal.cpp with `c++ -O3`, runs each three times on the same text, compares both texts with it, and prints the
+built, builds bench/journal.cpp with `c++ -O3`, runs both five times in turn on the same text, compares both texts with it, and prints the
 best times and the ratio, which is the last line.
 
 Usage: bench/journal.py
@@ -12,7 +12,7 @@ import subprocess
 import sys
 import tempfile
 
-from parts import best_run, built, compiled
+from parts import best_runs, built, compiled
 
 PARTS = [("main.rt.txt", "src/main.rt")]
 CRATES = ["cht_ids", "cht_io", "task_types", "cht_history", "journal_text"]
@@ -48,7 +48,7 @@ def main():
             text.write("\n".join(["cht journal 1"] + events(count) + [f"end {count}"]) + "\n")
         ours = built(folder, "journal_bench", CRATES, PARTS)
         texts = [os.path.join(folder, "ours.txt"), os.path.join(folder, "base.txt")]
-        runs = [best_run([program], source, text) for program, text in zip([ours, base], texts)]
+        runs = best_runs(*(([program], source, text) for program, text in zip([ours, base], texts)))
         for text in texts:
             if subprocess.run(["cmp", "-s", source, text]).returncode != 0:
                 sys.exit(f"{text} is not the text that was read")

@@ -9,20 +9,26 @@ TOP = os.path.dirname(os.path.dirname(os.path.abspath(__file__)))
 PROGRAM = os.path.join(TOP, "crates", "cht", "out", "cht")
 
 
-def best_run(command, source, target):
-    """The best time of three runs in seconds, and the greatest peak of memory in MiB."""
-    best, peak = None, 0
-    for _ in range(3):
-        with open(source, "rb") as given, open(target, "wb") as taken:
-            start = time.monotonic()
-            child = subprocess.Popen(command, stdin=given, stdout=taken)
-            _, status, used = os.wait4(child.pid, 0)
-            spent = time.monotonic() - start
-        if status != 0:
-            sys.exit(f"{command[0]} ended with {status} on {source}")
-        best = spent if best is None else min(best, spent)
-        peak = max(peak, used.ru_maxrss / 1024)
-    return best, peak
+RUNS = 5
+
+
+def best_runs(*wanted):
+    """Runs commands five times in turn, so that what else the machine does meets all of them. Each is given as the command, the file that
+    it reads and the file that it writes. For each the least time in seconds and the greatest peak of memory in MiB."""
+    runs = [[one_run(*run) for run in wanted] for _ in range(RUNS)]
+    return [(min(spent for spent, _ in of_one), max(peak for _, peak in of_one)) for of_one in zip(*runs)]
+
+
+def one_run(command, source, target):
+    """The time of one run in seconds, and its peak of memory in MiB."""
+    with open(source, "rb") as given, open(target, "wb") as taken:
+        start = time.monotonic()
+        child = subprocess.Popen(command, stdin=given, stdout=taken)
+        _, status, used = os.wait4(child.pid, 0)
+        spent = time.monotonic() - start
+    if status != 0:
+        sys.exit(f"{command[0]} ended with {status} on {source}")
+    return spent, used.ru_maxrss / 1024
 
 
 def compiled(folder, compiler, source, *flags):
@@ -36,7 +42,7 @@ def in_turn(programs, same):
     """Runs programs five times in turn. Each writes the same lines of numbers: the first `same` numbers of a line have to be the
     same in all, and the others are times. By the first numbers, the least times of each program."""
     least = {}
-    for _ in range(5):
+    for _ in range(RUNS):
         texts = [subprocess.run([program], stdout=subprocess.PIPE, check=True, text=True).stdout for program in programs]
         rows = [[line.split() for line in text.splitlines()] for text in texts]
         for lines in zip(*rows, strict=True):
@@ -55,8 +61,7 @@ def compared(folder, plain, source, name):
     if not os.path.exists(PROGRAM):
         sys.exit("build the program first: bin/cht plain < examples/first.cht")
     texts = [os.path.join(folder, "ours"), os.path.join(folder, "base")]
-    ours = best_run([PROGRAM, "plain"], source, texts[0])
-    base = best_run([plain], source, texts[1])
+    ours, base = best_runs(([PROGRAM, "plain"], source, texts[0]), ([plain], source, texts[1]))
     if subprocess.run(["cmp", "-s"] + texts).returncode != 0:
         sys.exit(f"the two programs write different texts: {name}")
     return ours, base

@@ -2,7 +2,7 @@
 """Times products under `cht plain` against a plain C++ program with a quadtree of dense leaves.
 
 Makes the inputs in a temporary folder, builds bench/products.cpp, runs both programs on each input, compares what they write,
-and prints the best time of three runs, the peak memory, the ratios, and what a task takes beside its kernel: the difference of the
+and prints the best time of five runs in turn, the peak memory, the ratios, and what a task takes beside its kernel: the difference of the
 times, by the number of tasks that the plans ask. Usage: bench/products.py
 """
 import os

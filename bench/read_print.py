@@ -2,7 +2,7 @@
 """Times `cht plain` on one large matrix against a plain C program that reads and prints the same.
 
 Makes the inputs in a temporary folder, builds bench/read_print.c, runs both programs on each input, compares what
-they write, and prints the best time of three runs, the peak memory, and the ratios. Usage: bench/read_print.py
+they write, and prints the best time of five runs in turn, the peak memory, and the ratios. Usage: bench/read_print.py
 """
 import os
 import random

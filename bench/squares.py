@@ -2,7 +2,7 @@
 """Times `square` of a dense symmetric matrix under `cht plain` against `mul` of its full form.
 
 Makes three scripts of one symmetric matrix in a temporary folder: one prints the full form of its square, one the product of its full
-form with itself, and one its full form alone. The first two have to write one text. Prints the best time of three runs of each and the
+form with itself, and one its full form alone. The first two have to write one text. Prints the best time of five runs in turn and the
 peak memory, and the ratio of the first two, also with the time of the third taken off, which is that of reading, `full` and printing.
 Usage: bench/squares.py
 """
@@ -12,7 +12,7 @@ import subprocess
 import sys
 import tempfile
 
-from parts import PROGRAM, best_run
+from parts import PROGRAM, best_runs
 
 BANNER = "%%MatrixMarket matrix coordinate integer symmetric\n"
 SIDE, LEAF = 512, 32
@@ -34,15 +34,16 @@ def script(side, leaf, statements):
 def main():
     if not os.path.exists(PROGRAM):
         sys.exit("build the program first: bin/cht plain < examples/first.cht")
-    spent, peak = {}, {}
     with tempfile.TemporaryDirectory() as folder:
+        sources = {name: os.path.join(folder, f"{name}.cht") for name in STATEMENTS}
         texts = {name: os.path.join(folder, name) for name in STATEMENTS}
         for name in STATEMENTS:
-            source = os.path.join(folder, "script")
             # A process of its own makes the script: the peak of a child counts the memory that its parent had.
-            subprocess.run([sys.executable, __file__, "make", name, source], check=True)
-            spent[name], peak[name] = best_run([PROGRAM, "plain"], source, texts[name])
-            print(f"{name}, dense {SIDE}, leaf {LEAF}: {spent[name]:.3f} s, {peak[name]:.0f} MiB", flush=True)
+            subprocess.run([sys.executable, __file__, "make", name, sources[name]], check=True)
+        runs = best_runs(*(([PROGRAM, "plain"], sources[name], texts[name]) for name in STATEMENTS))
+        spent = {name: time for name, (time, _) in zip(STATEMENTS, runs)}
+        for name, (time, peak) in zip(STATEMENTS, runs):
+            print(f"{name}, dense {SIDE}, leaf {LEAF}: {time:.3f} s, {peak:.0f} MiB")
         if subprocess.run(["cmp", "-s", texts["square"], texts["mul"]]).returncode != 0:
             sys.exit("the square and the product are different texts")
     base = spent["neither"]

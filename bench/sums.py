@@ -2,7 +2,7 @@
 """Times chains of sums and large blocks under `cht plain` against a plain C++ program with sorted entry lists.
 
 Makes the inputs in a temporary folder, builds bench/sums.cpp, runs both programs on each input, compares what they write,
-and prints the best time of three runs, the peak memory, and the ratios. Usage: bench/sums.py
+and prints the best time of five runs in turn, the peak memory, and the ratios. Usage: bench/sums.py
 """
 import os
 import random
