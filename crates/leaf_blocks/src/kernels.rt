@@ -260,12 +260,16 @@ pub fn peak_of(numbers: &[i128]) -> u128
 // How many numbers are passed over at once: factors where all of them are 0, and numbers of which none is above the peak so far.
 const PASSED: usize = 8;
 
-// The greatest of a number and the absolute values of some others, which are looked at once more where one of them is above it.
+// The greatest of a number and the absolute values of some others, which are looked at once more where one of them is above it. A look
+// at zeros alone is the cheapest, and many blocks have little else.
 fn peak_unless_within(numbers: &[i128], least: u128) -> u128
     ensures above { All (λ z. unsigned_abs z ≤ result) numbers.now }
     ensures more { least ≤ result }
     ensures least { (bound : ℕ) → least ≤ bound → All (λ z. unsigned_abs z ≤ bound) numbers.now → result ≤ bound }
 {
+    if are_zero(numbers) {
+        return least;
+    }
     if are_within(numbers, least) {
         least
     } else {
