@@ -79,6 +79,13 @@ impl<L: Library> Core<L> {
         self.kept.finish(w, outcome)
     }
 
+    /// Takes the list that a finish answered, so that the next finish uses its memory again. Nothing that is known of the core changes.
+    pub fn take_back(&mut self, ready: List<TaskNo>)
+        ensures { self.new ≡ self.old }
+    {
+        self.kept.take_back(ready);
+    }
+
     /// A worker gives the task back that it runs, which is Ready again. It takes no memory.
     pub fn give_back(&mut self, w: u32)
         requires worker { w < self.old.workers }
