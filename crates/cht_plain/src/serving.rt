@@ -1,5 +1,5 @@
 // The caller waits for what it asked: worker 0 runs the tasks, the newest that is ready first, so that few are unfinished at a time.
-ghost use Rattle.std.specs.Prelude.{◌≡◌, ℕ, ◌+◌, IfOk, OnOk};
+ghost use Rattle.std.specs.Prelude.{◌≡◌, ℕ, ◌+◌, ◌≤◌, IfOk, OnOk};
 ghost use Rattle.task_types.specs.Tree.{Tree};
 ghost use Rattle.task_types.specs.Sound.{HasGoal, IsSoundFor};
 ghost use Rattle.task_states.specs.Awaiters.{IsRunnable};
@@ -14,7 +14,8 @@ use cht_ids::{List, Memory, Ref, TaskNo};
 use std::alloc::Global;
 use task_types::{Library, Outcome};
 
-/// Runs tasks until the one that was asked is done, and collects its output. For want of memory the ask is given up.
+/// Runs tasks until the one that was asked is done, and collects its output. For want of memory the ask is given up. The output cannot be
+/// there while a task is known to be ready, so it is asked for only where none is.
 pub fn serve<L: Library>(alloc: Global, core: &mut Core<L>, task: TaskNo) -> Result<Ref, Memory>
     requires waiting { IsWaiting L.meanings core.old }
     requires awaits { (goal : Tree L.Chunk) × AwaitsOne (seen_of L.meanings core.old) task goal }
@@ -39,7 +40,7 @@ pub fn serve<L: Library>(alloc: Global, core: &mut Core<L>, task: TaskNo) -> Res
     }
 }
 
-// Begins a task and executes it. `newest` holds tasks that became ready, the latest last; one that is left out is found all the same.
+// Begins the least task that is ready and executes it, and then those that are known to be ready by it, the newest first, until none is.
 fn work<L: Library>(
     alloc: Global,
     core: &mut Core<L>,
@@ -49,29 +50,59 @@ fn work<L: Library>(
     requires ready { (task : ℕ) × IsRunnable (state L.meanings core.old).graph task }
     ensures waiting { IsWaiting L.meanings core.new }
     ensures seen { seen_of L.meanings core.new ≡ seen_of L.meanings core.old }
-    ensures less { OnOk result (left L.meanings core.new + 1 ≡ left L.meanings core.old) }
+    ensures less { OnOk result (left L.meanings core.new + 1 ≤ left L.meanings core.old) }
 {
-    match begin(core, newest) {
-        Ok(started) => match execute(alloc, core, started) {
-            Ok(ready) => {
-                let _ = newest.extend_from_slice(ready.as_slice());
-                Ok(())
-            }
+    match begin_least(core) {
+        Ok(started) => match run(alloc, core, started, newest) {
+            Ok(()) => work_on(alloc, core, newest),
             Err(memory) => Err(memory),
         },
         Err(memory) => Err(memory),
     }
 }
 
-// Begins the newest task that is known to be ready, or else the least of all that are.
-fn begin<L: Library>(core: &mut Core<L>, newest: &mut Vec<TaskNo>) -> Result<Started<L>, Memory>
-    requires waiting { IsWaiting L.meanings core.old }
-    requires ready { (task : ℕ) × IsRunnable (state L.meanings core.old).graph task }
-    ensures { IsBegun L.meanings core.old core.new result }
+// Executes the tasks that are known to be ready, the newest first, until none is.
+fn work_on<L: Library>(
+    alloc: Global,
+    core: &mut Core<L>,
+    newest: &mut Vec<TaskNo>,
+) -> Result<(), Memory>
+    requires { IsWaiting L.meanings core.old }
+    ensures waiting { IsWaiting L.meanings core.new }
+    ensures seen { seen_of L.meanings core.new ≡ seen_of L.meanings core.old }
+    ensures most { OnOk result (left L.meanings core.new ≤ left L.meanings core.old) }
 {
-    match begin_newest(core, newest) {
-        Ok(Some(started)) => Ok(started),
-        Ok(None) => begin_least(core),
+    loop {
+        match begin_newest(core, newest) {
+            Ok(Some(started)) => match run(alloc, core, started, newest) {
+                Ok(()) => {}
+                Err(memory) => return Err(memory),
+            },
+            Ok(None) => return Ok(()),
+            Err(memory) => return Err(memory),
+        }
+    }
+}
+
+// Executes the task that the worker began, and finishes it. `newest` holds tasks that became ready, the latest last; one that is left out
+// is found all the same.
+fn run<L: Library>(
+    alloc: Global,
+    core: &mut Core<L>,
+    started: Started<L>,
+    newest: &mut Vec<TaskNo>,
+) -> Result<(), Memory>
+    requires { Executes L.meanings core.old started }
+    ensures waiting { IsWaiting L.meanings core.new }
+    ensures seen { seen_of L.meanings core.new ≡ seen_of L.meanings core.old }
+    ensures less { OnOk result (left L.meanings core.new + 1 ≡ left L.meanings core.old) }
+{
+    match execute(alloc, core, started) {
+        Ok(ready) => {
+            let _ = newest.extend_from_slice(ready.as_slice());
+            core.take_back(ready);
+            Ok(())
+        }
         Err(memory) => Err(memory),
     }
 }
