@@ -4,12 +4,11 @@ ghost use Rattle.task_types.specs.Tree.{Tree};
 ghost use Rattle.task_types.specs.Sound.{HasGoal, IsSoundFor};
 ghost use Rattle.task_states.specs.Awaiters.{IsRunnable};
 ghost use Rattle.cht_core.specs.Events.{state};
-ghost use Rattle.cht_core.specs.Granted.{AreOwn, inputs_granted};
 ghost use Rattle.cht_plain.specs.Alone.{seen_of, left, IsAtRest, IsWaiting, Executes};
 ghost use Rattle.cht_plain.specs.Serving.{AwaitsOne, IsServed};
 ghost use Rattle.cht_plain.specs.Begun.{IsTried, IsBegun};
 
-use cht_core::{Collected, Core, Idle, Start, Started};
+use cht_core::{Begin, Collected, Core, Execution, Idle};
 use cht_ids::{List, Memory, Ref, TaskNo};
 use std::alloc::Global;
 use task_types::{Library, Outcome};
@@ -89,7 +88,7 @@ fn work_on<L: Library>(
 fn run<L: Library>(
     alloc: Global,
     core: &mut Core<L>,
-    started: Started<L>,
+    started: Execution<L>,
     newest: &mut Vec<TaskNo>,
 ) -> Result<(), Memory>
     requires { Executes L.meanings core.old started }
@@ -111,31 +110,31 @@ fn run<L: Library>(
 fn begin_newest<L: Library>(
     core: &mut Core<L>,
     newest: &mut Vec<TaskNo>,
-) -> Result<Option<Started<L>>, Memory>
+) -> Result<Option<Execution<L>>, Memory>
     requires { IsWaiting L.meanings core.old }
     ensures { IsTried L.meanings core.old core.new result }
 {
     match newest.pop() {
         None => Ok(None),
-        Some(task) => match core.start(0, task) {
-            Start::Started(started) => Ok(Some(started)),
-            Start::Memory => Err(Memory),
-            Start::NotReady(_) => Ok(None),
+        Some(task) => match core.begin(0, task) {
+            Begin::Started(started) => Ok(Some(started)),
+            Begin::Memory => Err(Memory),
+            Begin::NotReady(_) => Ok(None),
         },
     }
 }
 
 // Begins the least task that is ready.
-fn begin_least<L: Library>(core: &mut Core<L>) -> Result<Started<L>, Memory>
+fn begin_least<L: Library>(core: &mut Core<L>) -> Result<Execution<L>, Memory>
     requires waiting { IsWaiting L.meanings core.old }
     requires ready { (task : ℕ) × IsRunnable (state L.meanings core.old).graph task }
     ensures { IsBegun L.meanings core.old core.new result }
 {
     match core.idle() {
-        Idle::Run(task) => match core.start(0, task) {
-            Start::Started(started) => Ok(started),
-            Start::Memory => Err(Memory),
-            Start::NotReady(_) => unreachable!(),
+        Idle::Run(task) => match core.begin(0, task) {
+            Begin::Started(started) => Ok(started),
+            Begin::Memory => Err(Memory),
+            Begin::NotReady(_) => unreachable!(),
         },
         Idle::End => unreachable!(),
         Idle::Later => unreachable!(),
@@ -146,7 +145,7 @@ fn begin_least<L: Library>(core: &mut Core<L>) -> Result<Started<L>, Memory>
 fn execute<L: Library>(
     alloc: Global,
     core: &mut Core<L>,
-    started: Started<L>,
+    started: Execution<L>,
 ) -> Result<List<TaskNo>, Memory>
     requires { Executes L.meanings core.old started }
     ensures waiting { IsWaiting L.meanings core.new }
@@ -172,13 +171,10 @@ fn execute<L: Library>(
 // The outcome of a task that a worker began.
 fn outcome_of<L: Library>(
     alloc: Global,
-    started: Started<L>,
+    started: Execution<L>,
 ) -> Result<Outcome<L::Chunk, L::Kind>, Memory>
-    requires own { AreOwn started.inputs }
-    requires goal { HasGoal L.meanings started.kind (inputs_granted started.inputs) }
-    ensures { IfOk result (IsSoundFor L.Chunk.arity L.meanings started.kind (inputs_granted started.inputs)) }
+    requires { HasGoal L.meanings started.kind started.inputs }
+    ensures { IfOk result (IsSoundFor L.Chunk.arity L.meanings started.kind started.inputs) }
 {
-    let kind = started.kind;
-    let inputs = started.inputs.into_inputs();
-    L::run(alloc, kind, &inputs)
+    L::run(alloc, started.kind, &started.inputs)
 }
