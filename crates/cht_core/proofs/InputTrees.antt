@@ -1,10 +1,11 @@
--- What is granted of the inputs of a task shows their trees.
-use Rattle.std.proofs.Common.{◌≡◌, ℕ, zero, suc, ◌≤◌, Bool, nat_lt, List, [], ◌∷◌, map as each, length, slice_get, take, Option, None, Some, refl, sym, ap, subst, ◌∙◌, arith}
+-- What a task is shown of its inputs shows their trees.
+use Rattle.std.proofs.Common.{◌≡◌, ℕ, zero, suc, ◌≤◌, Bool, nat_lt, List, [], ◌∷◌, map as each, length, slice_get, take, Option, None, Some, refl, sym, ap, ◌∙◌, arith}
 use Rattle.std.proofs.lemmas.List.{length-map}
 use Rattle.std.specs.Option.{option_map, is_some}
 use Rattle.cht_ids.specs.declared.refs.Ref.{Ref}
-use Rattle.task_types.specs.Tree.{Tree, Nothing, Root, tree_at}
-use Rattle.task_types.specs.Shown.{view_of}
+use Rattle.task_types.specs.Tree.{Tree, tree_at}
+use Rattle.task_types.specs.Shown.{view_of, Shows}
+use Rattle.task_types.specs.declared.inputs.Inputs.{Inputs}
 use Rattle.name_states.specs.States.{NameState}
 use Rattle.name_states.specs.declared.holder.Holder.TheVariants.{Task}
 use Rattle.task_states.specs.States.{Input, Unfinished, task_at}
@@ -17,9 +18,7 @@ use Rattle.name_machine.specs.Steps.{tree_known, input_trees}
 use Rattle.name_machine.specs.Standing.{input_shown, task_shown, IsOrderly}
 use Rattle.name_machine.proofs.Ends.{inputs_at}
 use Rattle.name_machine.proofs.Orderly.{ref_is_live}
-use Rattle.cht_core.specs.Granted.{count_there, IsOwn, view_granted, own_of, tree_in, AreLiveInputs, IsGrantedOwn}
-use Rattle.cht_core.specs.declared.grants.Grant.{Grant}
-use Rattle.cht_core.specs.declared.grants.Grants.{Grants}
+use Rattle.cht_core.specs.Granted.{count_there, tree_in, AreLiveInputs}
 
 module _ {C : Type 0} where
   -- the trees of inputs at a place
@@ -28,22 +27,6 @@ module _ {C : Type 0} where
   trees_in names [] place = refl
   trees_in names (input ∷ inputs) zero = refl
   trees_in names (input ∷ inputs) (suc place) = trees_in names inputs place
-
-  -- ---- What is granted of the tree of each input
-
-  own_is_own : (tree : Tree C) → IsOwn (own_of tree)
-  own_is_own Nothing = tt
-  own_is_own (Root content a b c d) = tt
-
-  own_shown : (tree : Tree C) → view_granted (own_of tree) ≡ view_of tree
-  own_shown Nothing = refl
-  own_shown (Root content a b c d) = refl
-
-  is_own : (tree : Tree C) (grant : Grant C) → grant ≡ own_of tree → IsOwn grant
-  is_own tree grant is = subst IsOwn (sym is) (own_is_own tree)
-
-  is_shown : (tree : Tree C) (grant : Grant C) → grant ≡ own_of tree → view_granted grant ≡ view_of tree
-  is_shown tree grant is = ap view_granted is ∙ own_shown tree
 
   views_are : (trees : List (Tree C)) → length trees ≤ 4
       → take (length trees) (view_of (tree_at trees 0) ∷ view_of (tree_at trees 1) ∷ view_of (tree_at trees 2) ∷ view_of (tree_at trees 3) ∷ []) ≡ each view_of trees
@@ -54,17 +37,11 @@ module _ {C : Type 0} where
   views_are (a ∷ b ∷ c ∷ d ∷ []) few = refl
   views_are (a ∷ b ∷ c ∷ d ∷ e ∷ trees) few = absurd (omega arith)
 
-  pub granted_own : (trees : List (Tree C)) (grants : Grants C) → grants.count ≡ length trees → length trees ≤ 4
-      → grants.first ≡ own_of (tree_at trees 0) → grants.second ≡ own_of (tree_at trees 1) → grants.third ≡ own_of (tree_at trees 2) → grants.fourth ≡ own_of (tree_at trees 3)
-      → IsGrantedOwn trees grants
-  granted_own trees grants count few first second third fourth =
-      let one = is_shown (tree_at trees 0) grants.first first in
-      let two = is_shown (tree_at trees 1) grants.second second in
-      let three = is_shown (tree_at trees 2) grants.third third in
-      let four = is_shown (tree_at trees 3) grants.fourth fourth in (
-        (is_own (tree_at trees 0) grants.first first, is_own (tree_at trees 1) grants.second second, is_own (tree_at trees 2) grants.third third, is_own (tree_at trees 3) grants.fourth fourth),
-        (count, (λ i. take (count i) (one i ∷ two i ∷ three i ∷ four i ∷ [])) ∙ views_are trees few),
-      )
+  pub all_shown : (trees : List (Tree C)) (inputs : Inputs C) → inputs.count ≡ length trees → length trees ≤ 4
+      → inputs.first ≡ view_of (tree_at trees 0) → inputs.second ≡ view_of (tree_at trees 1) → inputs.third ≡ view_of (tree_at trees 2) → inputs.fourth ≡ view_of (tree_at trees 3)
+      → Shows inputs trees
+  all_shown trees inputs count few first second third fourth =
+      (count, (λ i. take (count i) (first i ∷ second i ∷ third i ∷ fourth i ∷ [])) ∙ views_are trees few)
 
 -- an input that is there has a place below how many there are
 there_below : {X : Type 0} (xs : List X) (place : ℕ) → is_some (slice_get xs place) ≡ nat_lt place (length xs)
@@ -77,10 +54,10 @@ pub slot_there : (inputs : List (Input Ref)) (place : ℕ) (o : Option Slot) →
 slot_there inputs place None is = ap is_some is ∙ there_below inputs place
 slot_there inputs place (Some slot) is = ap is_some is ∙ there_below inputs place
 
--- what is granted of an input is what is granted of its tree
-pub own_at : {C : Type 0} (names : NameState C) (inputs : List (Input Ref)) (place : ℕ) (o : Option (Input Ref)) → o ≡ slice_get inputs place
-    → own_of (tree_in names o) ≡ own_of (tree_at (each tree_known (each (input_shown names) inputs)) place)
-own_at names inputs place o is = ap (λ input. own_of (tree_in names input)) is ∙ sym (ap own_of (trees_in names inputs place))
+-- what is shown of an input is what is shown of its tree
+pub view_at : {C : Type 0} (names : NameState C) (inputs : List (Input Ref)) (place : ℕ) (o : Option (Input Ref)) → o ≡ slice_get inputs place
+    → view_of (tree_in names o) ≡ view_of (tree_at (each tree_known (each (input_shown names) inputs)) place)
+view_at names inputs place o is = ap (λ input. view_of (tree_in names input)) is ∙ sym (ap view_of (trees_in names inputs place))
 
 few_taken : {X : Type 0} (count : ℕ) (xs : List X) → length (take count xs) ≤ count
 few_taken zero xs = omega arith

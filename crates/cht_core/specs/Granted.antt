@@ -1,8 +1,7 @@
 -- What a worker is granted of the inputs of a task, and what it shows.
 use Rattle.std.specs.Prelude.{◌≡◌, ℕ, Bool, if◌then◌else◌, Option, None, Some, List, slice_get}
 use Rattle.cht_ids.specs.declared.refs.Ref.{Ref}
-use Rattle.task_types.specs.Tree.{Tree, Nothing as NoTree, Root, is_there}
-use Rattle.task_types.specs.Shown.{mask, Shows}
+use Rattle.task_types.specs.Tree.{Tree, Nothing as NoTree}
 use Rattle.task_types.specs.declared.inputs.View.{View}
 use Rattle.task_types.specs.declared.inputs.View.TheVariants as view
 use Rattle.task_types.specs.declared.inputs.Inputs.{Inputs}
@@ -49,15 +48,10 @@ module _ {C : Type 0} where
         fourth = view_granted grants.fourth;
       }
 
-  -- a tree, granted as the owner's object
-  abbrev pub own_of : Tree C → Grant C
-  own_of NoTree = Nothing
-  own_of (Root content a b c d) = Own content (mask (is_there a) (is_there b) (is_there c) (is_there d))
-
-  -- what is granted of an input that is there; nothing where it is not
-  abbrev pub or_nothing : Option (Grant C) → Grant C
-  or_nothing None = Nothing
-  or_nothing (Some grant) = grant
+  -- what is shown of an input that is there; nothing where it is not
+  abbrev pub or_nothing : Option (View C) → View C
+  or_nothing None = view.Nothing
+  or_nothing (Some v) = v
 
   -- the tree of an input; nothing where there is none, or it is awaited
   abbrev pub tree_in : NameState C → Option (Input Ref) → Tree C
@@ -71,7 +65,3 @@ module _ {C : Type 0} where
   -- so for each of these
   abbrev pub AreLiveInputs : NameState C → List (Input Ref) → Type 0
   AreLiveInputs names inputs = (place : ℕ) → IsLiveInput names (slice_get inputs place)
-
-  -- what is granted shows these trees, and each is null or of the worker's own store
-  abbrev pub IsGrantedOwn : List (Tree C) → Grants C → Type 0
-  IsGrantedOwn trees grants = AreOwn grants × Shows (inputs_granted grants) trees

@@ -1,4 +1,5 @@
 pub mod Answers
+pub mod Entered
 pub mod Events
 pub mod Granted
 pub mod Started

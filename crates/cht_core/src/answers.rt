@@ -1,7 +1,7 @@
 use crate::grants::Grants;
 use cht_ids::{Ref, TaskNo};
 use task_states::TaskStatus;
-use task_types::Library;
+use task_types::{Inputs, Library};
 
 /// An execution that a worker begins.
 #[derive(Drop)]
@@ -19,6 +19,28 @@ pub struct Started<L: Library> {
 pub enum Start<L: Library> {
     /// It does.
     Started(Started<L>),
+    /// The task is not Ready: this is its status.
+    NotReady(TaskStatus),
+    /// There is not enough memory.
+    Memory,
+}
+
+/// An execution that a worker begins whose inputs are all of its own store.
+#[derive(Drop)]
+pub struct Execution<L: Library> {
+    /// The task.
+    pub task: TaskNo,
+    /// Its kind.
+    pub kind: L::Kind,
+    /// What the task is shown of its inputs.
+    pub inputs: Inputs<L::Chunk>,
+}
+
+/// Whether a worker begins a task, of which it gets what the task is shown.
+#[derive(Drop)]
+pub enum Begin<L: Library> {
+    /// It does.
+    Started(Execution<L>),
     /// The task is not Ready: this is its status.
     NotReady(TaskStatus),
     /// There is not enough memory.

@@ -19,6 +19,17 @@ pub enum Grant<C> {
 }
 
 impl<C> Grant<C> {
+    // What is shown of an input, granted as the owner's object.
+    fn own(view: View<C>) -> Grant<C>
+        ensures own { IsOwn result }
+        ensures shows { view_granted result ≡ view }
+    {
+        match view {
+            View::Nothing => Grant::Nothing,
+            View::There { content, present } => Grant::Own(content, present),
+        }
+    }
+
     // What a task is shown of it.
     fn into_view(self) -> View<C>
         requires { IsOwn self }
@@ -50,6 +61,20 @@ pub struct Grants<C> {
 }
 
 impl<C> Grants<C> {
+    // What a task is shown of its inputs, granted as the owners' objects.
+    pub(crate) fn own(inputs: Inputs<C>) -> Grants<C>
+        ensures own { AreOwn result }
+        ensures shows { inputs_granted result ≡ inputs }
+    {
+        Grants {
+            count: inputs.count,
+            first: Grant::own(inputs.first),
+            second: Grant::own(inputs.second),
+            third: Grant::own(inputs.third),
+            fourth: Grant::own(inputs.fourth),
+        }
+    }
+
     /// What the task is shown of its inputs, where each is null or of the worker's own store. It takes no memory.
     pub fn into_inputs(self) -> Inputs<C>
         requires { AreOwn self }

@@ -11,7 +11,7 @@ mod looking;
 mod record;
 mod workers;
 
-pub use answers::{Abandoned, Collected, Idle, Start, Started};
+pub use answers::{Abandoned, Begin, Collected, Execution, Idle, Start, Started};
 pub use cores::Core;
 pub use grants::{Grant, Grants};
 pub use record::Record;

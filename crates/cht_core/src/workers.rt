@@ -11,15 +11,32 @@ ghost use Rattle.core_steps.specs.Conditions.{finish_of};
 ghost use Rattle.core_steps.specs.NewlyReady.{AreNewlyReady};
 ghost use Rattle.cht_core.specs.Events.{state, Happens};
 ghost use Rattle.cht_core.specs.Answers.{IsToDo};
+ghost use Rattle.cht_core.specs.Granted.{AreOwn, inputs_granted};
 ghost use Rattle.cht_core.specs.Started.{IsStarted};
+ghost use Rattle.cht_core.specs.Entered.{IsEntered};
 
-use crate::answers::{Idle, Start, Started};
+use crate::answers::{Begin, Execution, Idle, Start, Started};
 use crate::cores::Core;
+use crate::grants::Grants;
 use cht_ids::{List, Memory, TaskNo};
 use task_graph::TaskRow;
 use task_states::TaskStatus;
 use task_types::laws::plans_decided;
 use task_types::{Library, Outcome};
+
+// An execution whose inputs are granted as the owners' objects.
+fn granted<L: Library>(execution: Execution<L>) -> Started<L>
+    ensures task { result.task ≡ execution.task }
+    ensures kind { result.kind ≡ execution.kind }
+    ensures own { AreOwn result.inputs }
+    ensures shows { inputs_granted result.inputs ≡ execution.inputs }
+{
+    Started {
+        task: execution.task,
+        kind: execution.kind,
+        inputs: Grants::own(execution.inputs),
+    }
+}
 
 impl<L: Library> Core<L> {
     /// A worker that runs nothing begins a task, where it is Ready. It gets the task's kind, and of each input that is not null the content,
@@ -29,31 +46,45 @@ impl<L: Library> Core<L> {
         requires idle { IsIdleIn (state L.meanings self.old) w }
         ensures { IsStarted L.meanings L.Chunk.arity self.old self.new w task result }
     {
+        match self.begin(w, task) {
+            Begin::Started(execution) => Start::Started(granted(execution)),
+            Begin::NotReady(status) => Start::NotReady(status),
+            Begin::Memory => Start::Memory,
+        }
+    }
+
+    /// The same for a worker that gets what the task is shown of its inputs: each is null, or the owner's object with the mask of the
+    /// children that are there.
+    pub fn begin(&mut self, w: u32, task: TaskNo) -> Begin<L>
+        requires worker { w < self.old.workers }
+        requires idle { IsIdleIn (state L.meanings self.old) w }
+        ensures { IsEntered L.meanings L.Chunk.arity self.old self.new w task result }
+    {
         match self.kept.row(task) {
-            None => Start::NotReady(TaskStatus::Unknown),
+            None => Begin::NotReady(TaskStatus::Unknown),
             Some(row) => match row.status() {
-                TaskStatus::Ready => self.start_ready(w, task, &row),
-                status => Start::NotReady(status),
+                TaskStatus::Ready => self.begin_ready(w, task, &row),
+                status => Begin::NotReady(status),
             },
         }
     }
 
     // The same for a task that is Ready, of which this is known.
-    fn start_ready(&mut self, w: u32, task: TaskNo, row: &TaskRow<L::Kind>) -> Start<L>
+    fn begin_ready(&mut self, w: u32, task: TaskNo, row: &TaskRow<L::Kind>) -> Begin<L>
         requires worker { w < self.old.workers }
         requires idle { IsIdleIn (state L.meanings self.old) w }
         requires row { task_at self.old.control.graph task ≡ Some (unfinished_in row.now) }
         requires few { row.now.count ≤ 4 }
         requires ready { status_at self.old.control.graph task ≡ Ready }
-        ensures { IsStarted L.meanings L.Chunk.arity self.old self.new w task result }
+        ensures { IsEntered L.meanings L.Chunk.arity self.old self.new w task result }
     {
-        let Ok(inputs) = self.grants(row) else {
-            return Start::Memory;
+        let Ok(inputs) = self.views(row) else {
+            return Begin::Memory;
         };
         let Ok(()) = self.kept.start(w, task) else {
-            return Start::Memory;
+            return Begin::Memory;
         };
-        Start::Started(Started {
+        Begin::Started(Execution {
             task,
             kind: row.kind,
             inputs,
@@ -77,6 +108,13 @@ impl<L: Library> Core<L> {
     {
         plans_decided::<L::Kind>();
         self.kept.finish(w, outcome)
+    }
+
+    /// Takes the list that a finish answered, so that the next finish uses its memory again. Nothing that is known of the core changes.
+    pub fn take_back(&mut self, ready: List<TaskNo>)
+        ensures { self.new ≡ self.old }
+    {
+        self.kept.take_back(ready);
     }
 
     /// A worker gives the task back that it runs, which is Ready again. It takes no memory.

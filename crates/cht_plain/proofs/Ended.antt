@@ -21,8 +21,7 @@ use Rattle.name_machine.proofs.Tasks.{changed_from}
 use Rattle.core_steps.specs.Conditions.{finish_of}
 use Rattle.core_state.specs.Contents.{Contents}
 use Rattle.cht_core.specs.Events.{state, Happens}
-use Rattle.cht_core.specs.Granted.{inputs_granted}
-use Rattle.cht_core.specs.declared.answers.Started.{Started}
+use Rattle.cht_core.specs.declared.answers.Execution.{Execution}
 use Rattle.cht_plain.specs.Alone.{seen_of, left, IsWaiting, IsBusy, Executes}
 use Rattle.cht_plain.proofs.Absent.{task_by}
 use Rattle.cht_plain.proofs.Kept.{alone_then}
@@ -87,9 +86,9 @@ module _ {C K : Type 0} (lib : Meanings C K) (arity : C → ℕ) (before after :
     pub finish_less : left lib after + 1 ≡ left lib before
     finish_less = let less = left_then lib arity before after (finish_of 0 task outcome) happens refl in let one = one_finished in omega arith
 
-module _ {L C K : Type 0} (lib : Meanings C K) (arity : C → ℕ) (core : Contents C K) (started : Started L C K) (executes : Executes lib core started) where
+module _ {L C K : Type 0} (lib : Meanings C K) (arity : C → ℕ) (core : Contents C K) (started : Execution L C K) (executes : Executes lib core started) where
   -- what the inputs that were granted show, the outcome is sound for
-  pub sound_so : (outcome : Outcome C K) → IsSoundFor arity lib started.kind (inputs_granted started.inputs) outcome
+  pub sound_so : (outcome : Outcome C K) → IsSoundFor arity lib started.kind started.inputs outcome
       → IsSound arity lib executes.unfinished.kind (input_trees executes.unfinished) outcome
   sound_so outcome sound =
       let kind = executes.busy.kind_is in
@@ -97,11 +96,11 @@ module _ {L C K : Type 0} (lib : Meanings C K) (arity : C → ℕ) (core : Conte
       (sound (input_trees executes.unfinished) executes.shown (subst (λ (k : K). lib.defined k (input_trees executes.unfinished)) (sym kind) executes.busy.defined))
 
   -- the goal of what was begun is defined
-  pub goal_so : HasGoal lib started.kind (inputs_granted started.inputs)
+  pub goal_so : HasGoal lib started.kind started.inputs
   goal_so =
       (input_trees executes.unfinished, executes.shown, subst (λ (k : K). lib.defined k (input_trees executes.unfinished)) (sym executes.busy.kind_is) executes.busy.defined)
 
-module _ {L C K : Type 0} (lib : Meanings C K) (arity : C → ℕ) (before now after : Contents C K) (same : now ≡ before) (started : Started L C K) (executes : Executes lib before started) where
+module _ {L C K : Type 0} (lib : Meanings C K) (arity : C → ℕ) (before now after : Contents C K) (same : now ≡ before) (started : Execution L C K) (executes : Executes lib before started) where
   pub busy_now : IsBusy lib now started.task started.kind executes.unfinished
   busy_now = subst (λ core. IsBusy lib core started.task started.kind executes.unfinished) (sym same) executes.busy
 
@@ -116,7 +115,7 @@ module _ {L C K : Type 0} (lib : Meanings C K) (arity : C → ℕ) (before now a
     pub given_back_seen : seen_of lib after ≡ seen_of lib before
     given_back_seen = back_seen lib arity now after started.task started.kind executes.unfinished busy_now (happens started.task runs_now.1) ∙ ap (seen_of lib) same
 
-module _ {L C K : Type 0} (lib : Meanings C K) (arity : C → ℕ) (before after : Contents C K) (started : Started L C K) (executes : Executes lib before started)
+module _ {L C K : Type 0} (lib : Meanings C K) (arity : C → ℕ) (before after : Contents C K) (started : Execution L C K) (executes : Executes lib before started)
     (run : IsLegalRun lib arity before.events (state lib before)) (facts : HoldsTogether lib (state lib before)) (outcome : Outcome C K)
     (happens : (task : ℕ) → Runs (state lib before) 0 task → Happens lib arity before after (finish_of 0 task outcome)) where
   it_happens : Happens lib arity before after (finish_of 0 started.task outcome)

@@ -11,9 +11,9 @@ use Rattle.name_machine.specs.Parts.{untold, told_after, is_callers_own, finishe
 use Rattle.name_machine.proofs.Tasks.{changed_here, changed_from}
 use Rattle.name_machine.proofs.Telling.{finishes_then}
 use Rattle.core_state.specs.Contents.{Contents}
-use Rattle.cht_core.specs.declared.answers.Started.{Started}
+use Rattle.cht_core.specs.declared.answers.Execution.{Execution}
 use Rattle.cht_core.specs.Events.{state, Happens}
-use Rattle.cht_core.specs.Started.{IsBegun}
+use Rattle.cht_core.specs.Entered.{IsOn}
 use Rattle.cht_engine.specs.Seen.{Seen, seen_by}
 use Rattle.cht_plain.specs.Alone.{seen_of, left, IsWaiting}
 use Rattle.cht_plain.specs.Begun.{HasBegun}
@@ -34,7 +34,7 @@ module _ {C K : Type 0} (lib : Meanings C K) (arity : C → ℕ) (before after :
 
 module _ {L C K : Type 0} (lib : Meanings C K) (arity : C → ℕ) (before after : Contents C K) where
   -- the worker runs what it began, and nobody runs another
-  pub begun_so : (task : ℕ) (started : Started L C K) → IsWaiting lib before → IsBegun lib arity before after 0 task started → HasBegun lib before after started
+  pub begun_so : (task : ℕ) (started : Execution L C K) → IsWaiting lib before → IsOn lib arity before after 0 task started → HasBegun lib before after started
   begun_so task started waiting begun =
       let step = begun.happens.step in
       let now : Machine C K = state lib before in
@@ -61,7 +61,6 @@ module _ {L C K : Type 0} (lib : Meanings C K) (arity : C → ℕ) (before after
             defined = begun.defined;
             only = λ worker other runs. only worker other runs ∙ same;
           };
-          own = begun.own;
           shown = begun.shown;
         };
         seen = seen_same lib arity before after (Start 0 task) begun.happens refl;

@@ -10,8 +10,7 @@ use Rattle.name_machine.specs.Steps.{input_trees}
 use Rattle.name_machine.specs.Parts.{names_of, asks_of, caller_part, finishes_of, work_left}
 use Rattle.core_state.specs.Contents.{Contents}
 use Rattle.cht_core.specs.Events.{state}
-use Rattle.cht_core.specs.Granted.{AreOwn, inputs_granted}
-use Rattle.cht_core.specs.declared.answers.Started.{Started}
+use Rattle.cht_core.specs.declared.answers.Execution.{Execution}
 use Rattle.cht_engine.specs.Seen.{Seen, seen_by}
 use Rattle.cht_engine.specs.Closing.{is_finish}
 
@@ -59,8 +58,7 @@ module _ {C K : Type 0} (lib : Meanings C K) where
 
 module _ {L C K : Type 0} (lib : Meanings C K) where
   -- the worker runs what it began
-  pub record Executes (core : Contents C K) (started : Started L C K) : Type 0 where
+  pub record Executes (core : Contents C K) (started : Execution L C K) : Type 0 where
     pub unfinished : Unfinished (Tree C) K
     pub busy : IsBusy lib core started.task started.kind unfinished
-    pub own : AreOwn started.inputs
-    pub shown : Shows (inputs_granted started.inputs) (input_trees unfinished)
+    pub shown : Shows started.inputs (input_trees unfinished)

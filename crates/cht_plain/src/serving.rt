@@ -1,20 +1,20 @@
 // The caller waits for what it asked: worker 0 runs the tasks, the newest that is ready first, so that few are unfinished at a time.
-ghost use Rattle.std.specs.Prelude.{◌≡◌, ℕ, ◌+◌, IfOk, OnOk};
+ghost use Rattle.std.specs.Prelude.{◌≡◌, ℕ, ◌+◌, ◌≤◌, IfOk, OnOk};
 ghost use Rattle.task_types.specs.Tree.{Tree};
 ghost use Rattle.task_types.specs.Sound.{HasGoal, IsSoundFor};
 ghost use Rattle.task_states.specs.Awaiters.{IsRunnable};
 ghost use Rattle.cht_core.specs.Events.{state};
-ghost use Rattle.cht_core.specs.Granted.{AreOwn, inputs_granted};
 ghost use Rattle.cht_plain.specs.Alone.{seen_of, left, IsAtRest, IsWaiting, Executes};
 ghost use Rattle.cht_plain.specs.Serving.{AwaitsOne, IsServed};
 ghost use Rattle.cht_plain.specs.Begun.{IsTried, IsBegun};
 
-use cht_core::{Collected, Core, Idle, Start, Started};
+use cht_core::{Begin, Collected, Core, Execution, Idle};
 use cht_ids::{List, Memory, Ref, TaskNo};
 use std::alloc::Global;
 use task_types::{Library, Outcome};
 
-/// Runs tasks until the one that was asked is done, and collects its output. For want of memory the ask is given up.
+/// Runs tasks until the one that was asked is done, and collects its output. For want of memory the ask is given up. The output cannot be
+/// there while a task is known to be ready, so it is asked for only where none is.
 pub fn serve<L: Library>(alloc: Global, core: &mut Core<L>, task: TaskNo) -> Result<Ref, Memory>
     requires waiting { IsWaiting L.meanings core.old }
     requires awaits { (goal : Tree L.Chunk) × AwaitsOne (seen_of L.meanings core.old) task goal }
@@ -39,7 +39,7 @@ pub fn serve<L: Library>(alloc: Global, core: &mut Core<L>, task: TaskNo) -> Res
     }
 }
 
-// Begins a task and executes it. `newest` holds tasks that became ready, the latest last; one that is left out is found all the same.
+// Begins the least task that is ready and executes it, and then those that are known to be ready by it, the newest first, until none is.
 fn work<L: Library>(
     alloc: Global,
     core: &mut Core<L>,
@@ -49,29 +49,59 @@ fn work<L: Library>(
     requires ready { (task : ℕ) × IsRunnable (state L.meanings core.old).graph task }
     ensures waiting { IsWaiting L.meanings core.new }
     ensures seen { seen_of L.meanings core.new ≡ seen_of L.meanings core.old }
-    ensures less { OnOk result (left L.meanings core.new + 1 ≡ left L.meanings core.old) }
+    ensures less { OnOk result (left L.meanings core.new + 1 ≤ left L.meanings core.old) }
 {
-    match begin(core, newest) {
-        Ok(started) => match execute(alloc, core, started) {
-            Ok(ready) => {
-                let _ = newest.extend_from_slice(ready.as_slice());
-                Ok(())
-            }
+    match begin_least(core) {
+        Ok(started) => match run(alloc, core, started, newest) {
+            Ok(()) => work_on(alloc, core, newest),
             Err(memory) => Err(memory),
         },
         Err(memory) => Err(memory),
     }
 }
 
-// Begins the newest task that is known to be ready, or else the least of all that are.
-fn begin<L: Library>(core: &mut Core<L>, newest: &mut Vec<TaskNo>) -> Result<Started<L>, Memory>
-    requires waiting { IsWaiting L.meanings core.old }
-    requires ready { (task : ℕ) × IsRunnable (state L.meanings core.old).graph task }
-    ensures { IsBegun L.meanings core.old core.new result }
+// Executes the tasks that are known to be ready, the newest first, until none is.
+fn work_on<L: Library>(
+    alloc: Global,
+    core: &mut Core<L>,
+    newest: &mut Vec<TaskNo>,
+) -> Result<(), Memory>
+    requires { IsWaiting L.meanings core.old }
+    ensures waiting { IsWaiting L.meanings core.new }
+    ensures seen { seen_of L.meanings core.new ≡ seen_of L.meanings core.old }
+    ensures most { OnOk result (left L.meanings core.new ≤ left L.meanings core.old) }
 {
-    match begin_newest(core, newest) {
-        Ok(Some(started)) => Ok(started),
-        Ok(None) => begin_least(core),
+    loop {
+        match begin_newest(core, newest) {
+            Ok(Some(started)) => match run(alloc, core, started, newest) {
+                Ok(()) => {}
+                Err(memory) => return Err(memory),
+            },
+            Ok(None) => return Ok(()),
+            Err(memory) => return Err(memory),
+        }
+    }
+}
+
+// Executes the task that the worker began, and finishes it. `newest` holds tasks that became ready, the latest last; one that is left out
+// is found all the same.
+fn run<L: Library>(
+    alloc: Global,
+    core: &mut Core<L>,
+    started: Execution<L>,
+    newest: &mut Vec<TaskNo>,
+) -> Result<(), Memory>
+    requires { Executes L.meanings core.old started }
+    ensures waiting { IsWaiting L.meanings core.new }
+    ensures seen { seen_of L.meanings core.new ≡ seen_of L.meanings core.old }
+    ensures less { OnOk result (left L.meanings core.new + 1 ≡ left L.meanings core.old) }
+{
+    match execute(alloc, core, started) {
+        Ok(ready) => {
+            let _ = newest.extend_from_slice(ready.as_slice());
+            core.take_back(ready);
+            Ok(())
+        }
         Err(memory) => Err(memory),
     }
 }
@@ -80,31 +110,31 @@ fn begin<L: Library>(core: &mut Core<L>, newest: &mut Vec<TaskNo>) -> Result<Sta
 fn begin_newest<L: Library>(
     core: &mut Core<L>,
     newest: &mut Vec<TaskNo>,
-) -> Result<Option<Started<L>>, Memory>
+) -> Result<Option<Execution<L>>, Memory>
     requires { IsWaiting L.meanings core.old }
     ensures { IsTried L.meanings core.old core.new result }
 {
     match newest.pop() {
         None => Ok(None),
-        Some(task) => match core.start(0, task) {
-            Start::Started(started) => Ok(Some(started)),
-            Start::Memory => Err(Memory),
-            Start::NotReady(_) => Ok(None),
+        Some(task) => match core.begin(0, task) {
+            Begin::Started(started) => Ok(Some(started)),
+            Begin::Memory => Err(Memory),
+            Begin::NotReady(_) => Ok(None),
         },
     }
 }
 
 // Begins the least task that is ready.
-fn begin_least<L: Library>(core: &mut Core<L>) -> Result<Started<L>, Memory>
+fn begin_least<L: Library>(core: &mut Core<L>) -> Result<Execution<L>, Memory>
     requires waiting { IsWaiting L.meanings core.old }
     requires ready { (task : ℕ) × IsRunnable (state L.meanings core.old).graph task }
     ensures { IsBegun L.meanings core.old core.new result }
 {
     match core.idle() {
-        Idle::Run(task) => match core.start(0, task) {
-            Start::Started(started) => Ok(started),
-            Start::Memory => Err(Memory),
-            Start::NotReady(_) => unreachable!(),
+        Idle::Run(task) => match core.begin(0, task) {
+            Begin::Started(started) => Ok(started),
+            Begin::Memory => Err(Memory),
+            Begin::NotReady(_) => unreachable!(),
         },
         Idle::End => unreachable!(),
         Idle::Later => unreachable!(),
@@ -115,7 +145,7 @@ fn begin_least<L: Library>(core: &mut Core<L>) -> Result<Started<L>, Memory>
 fn execute<L: Library>(
     alloc: Global,
     core: &mut Core<L>,
-    started: Started<L>,
+    started: Execution<L>,
 ) -> Result<List<TaskNo>, Memory>
     requires { Executes L.meanings core.old started }
     ensures waiting { IsWaiting L.meanings core.new }
@@ -141,13 +171,10 @@ fn execute<L: Library>(
 // The outcome of a task that a worker began.
 fn outcome_of<L: Library>(
     alloc: Global,
-    started: Started<L>,
+    started: Execution<L>,
 ) -> Result<Outcome<L::Chunk, L::Kind>, Memory>
-    requires own { AreOwn started.inputs }
-    requires goal { HasGoal L.meanings started.kind (inputs_granted started.inputs) }
-    ensures { IfOk result (IsSoundFor L.Chunk.arity L.meanings started.kind (inputs_granted started.inputs)) }
+    requires { HasGoal L.meanings started.kind started.inputs }
+    ensures { IfOk result (IsSoundFor L.Chunk.arity L.meanings started.kind started.inputs) }
 {
-    let kind = started.kind;
-    let inputs = started.inputs.into_inputs();
-    L::run(alloc, kind, &inputs)
+    L::run(alloc, started.kind, &started.inputs)
 }

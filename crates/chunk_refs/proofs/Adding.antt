@@ -83,6 +83,11 @@ module _ {C : Type 0} where
   pub few-names : (parts : Parts C) (owner key : ℕ) (chunk : Chunk C) → HasChain parts None → chunk_at parts.stores.items owner key ≡ Some chunk → chunk.names ≤ length parts.ids.entries
   few-names parts owner key chunk has at = omega (arith, has.1.counted owner key chunk at, names-le-length parts.ids.entries chunk.number)
 
+  -- where the body of a name stands
+  pub named-there : (parts : Parts C) (number : ℕ) (name : StoredId) → HasChain parts None → lookup (nat_eq number) parts.ids.entries ≡ Some name
+      → (chunk : Chunk C) × (chunk_at parts.stores.items name.owner name.key ≡ Some chunk)
+  named-there parts number name has is = let there = has.1.named number name is in (there.0, there.1)
+
   -- there are no more bodies than identifiers
   pub few-bodies : (parts : Parts C) → HasChain parts None → parts.bodies ≤ length parts.ids.entries
   few-bodies parts has =

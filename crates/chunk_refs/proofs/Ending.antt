@@ -1,5 +1,5 @@
 -- An identifier ends, and the first body of the chain is taken out.
-use Rattle.std.proofs.Common.{◌≡◌, ℕ, zero, suc, ◌<◌, ◌≤◌, true, false, cond, inl, inr, List, [], ◌∷◌, drop, take, Option, Some, None, IsSome, nat_eq, refl, sym, ap, subst, ◌∙◌, arith}
+use Rattle.std.proofs.Common.{◌≡◌, ℕ, zero, suc, ◌-◌, ◌<◌, ◌≤◌, true, false, cond, inl, inr, List, [], ◌∷◌, drop, take, Option, Some, None, IsSome, nat_eq, refl, sym, ap, subst, ◌∙◌, arith}
 use Rattle.std.specs.Option.{option_map}
 use Rattle.std.specs.List.{IsDistinct}
 use Rattle.std.specs.Map.{lookup, keys_of}
@@ -7,6 +7,7 @@ use Rattle.std.specs.Ordering.{nat_cmp}
 use Rattle.std.specs.FinMap as map
 use Rattle.cht_ids.specs.declared.refs.Ref.{Ref}
 use Rattle.cht_ids.specs.declared.refs.Ref.TheVariants.{Null, Id as Held}
+use Rattle.chunk_store.specs.Contents.{Contents as Stored}
 use Rattle.chunk_refs.specs.declared.parts.StoredId.{StoredId}
 use Rattle.chunk_refs.specs.declared.parts.Spot.{Spot}
 use Rattle.chunk_refs.specs.declared.parts.Chunk.{Chunk}
@@ -14,8 +15,8 @@ use Rattle.chunk_refs.specs.declared.parts.Parts.{Parts}
 use Rattle.name_states.specs.States.{NameState, IdRecord, BodyRecord, id_at, body_at}
 use Rattle.name_states.specs.Steps.{without_id, without_body}
 use Rattle.chunk_refs.specs.Inside.{names_of, bodies_of, names_of_body, shown_id, shown_chunk, chunk_at, ArePlaced, IsLinked, HasChain, AreNull, all_four}
-use Rattle.chunk_refs.specs.Deleting.{IsReleased, IsTaken, without_refs}
-use Rattle.name_states.proofs.Basics.{same_some, none_not_some, some_value}
+use Rattle.chunk_refs.specs.Deleting.{one_less, is_last, IsReleased, IsTaken, without_refs}
+use Rattle.name_states.proofs.Basics.{same_some, none_not_some, some_value, same_from_test}
 use Rattle.chunk_refs.proofs.Bodies.{shown-bodies_of}
 use Rattle.chunk_refs.proofs.Chains.{chain-kept}
 use Rattle.chunk_refs.proofs.Counts.{named-counts, counted-name}
@@ -33,6 +34,29 @@ positive (suc n) h = omega arith
 
 pub not_on_none : false ≡ true → ⊥
 not_on_none clash = cc
+
+module _ {C : Type 0} (before after : List (Stored (Chunk C))) (name : StoredId) (chunk : Chunk C) (first : Option Spot) (some : 0 < chunk.names)
+    (placed : ArePlaced before after name.owner name.key (Some (one_less chunk first))) where
+  -- a body that loses its last identifier is the first of the chain
+  pub released_last : true ≡ is_last chunk → IsReleased before after name chunk first (Some (record { owner = name.owner; key = name.key }))
+  released_last last =
+      let none : chunk.names - 1 ≡ 0 = same_from_test (chunk.names - 1) 0 (sym last) in
+      inl (record {
+        one = omega (arith, none, some);
+        placed = subst (λ c. ArePlaced before after name.owner name.key (Some c)) (λ i. record chunk { names = none i; next = cond (sym last i) first chunk.next }) placed;
+        front = refl;
+      })
+
+  -- one that has others leaves the chain as it was
+  pub released_less : false ≡ is_last chunk → IsReleased before after name chunk first first
+  released_less less =
+      inr (record {
+        left = chunk.names - 1;
+        less = omega (arith, some);
+        some_left = λ none. let clash : false ≡ true = less ∙ ap (λ n. nat_eq n 0) none in cc;
+        placed = subst (λ c. ArePlaced before after name.owner name.key (Some c)) (λ i. record chunk { names = chunk.names - 1; next = cond (sym less i) first chunk.next }) placed;
+        front = refl;
+      })
 
 module _ {C : Type 0} where
   -- the same identifiers and bodies, in another order and with other room

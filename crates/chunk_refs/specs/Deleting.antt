@@ -1,5 +1,5 @@
 -- One step of a deletion, and how far the deletion has come.
-use Rattle.std.specs.Prelude.{◌≡◌, ℕ, ◌+◌, ◌⊎◌, List, [], ◌∷◌, Option, Some}
+use Rattle.std.specs.Prelude.{◌≡◌, ℕ, Bool, ◌+◌, ◌-◌, ◌⊎◌, nat_eq, if◌then◌else◌, List, [], ◌∷◌, Option, Some}
 use Rattle.cht_ids.specs.declared.refs.Ref.{Ref}
 use Rattle.cht_ids.specs.declared.refs.Ref.TheVariants.{Null, Id as Held}
 use Rattle.chunk_store.specs.Contents.{Contents as Stored}
@@ -13,6 +13,18 @@ use Rattle.name_states.specs.Rules.{IsSound}
 use Rattle.chunk_refs.specs.Inside.{ArePlaced}
 
 module _ {C : Type 0} where
+  -- a body with one identifier more
+  abbrev pub one_more : Chunk C → Chunk C
+  one_more chunk = record chunk { names = chunk.names + 1; next = chunk.next }
+
+  -- whether a body loses its last identifier with the next one
+  abbrev pub is_last : Chunk C → Bool
+  is_last chunk = nat_eq (chunk.names - 1) 0
+
+  -- a body with one identifier less; where none is left it leads on to the first of the chain
+  abbrev pub one_less : Chunk C → Option Spot → Chunk C
+  one_less chunk first = record chunk { names = chunk.names - 1; next = if is_last chunk then first else chunk.next }
+
   -- the last identifier of the body in a place ended, and the body comes in front of the chain
   pub record IsLast (before after : List (Stored (Chunk C))) (name : StoredId) (chunk : Chunk C) (first later : Option Spot) : Type 0 where
     pub one : chunk.names ≡ 1

@@ -2,6 +2,7 @@
 #![tactic(auto)]
 
 mod children;
+mod counting;
 mod parts;
 mod refs;
 #[cfg(test)]

@@ -3,17 +3,17 @@ ghost use Rattle.std.specs.Prelude.{◌≡◌, drop, ℕ, ◌+◌, ◌-◌, ◌^
 ghost use Rattle.std.specs.Option.{ForSome};
 ghost use Rattle.std.specs.HashMap.{spare};
 ghost use Rattle.std.specs.Map.{lookup};
-ghost use Rattle.chunk_store.specs.Contents.{value_at, with_value};
 ghost use Rattle.name_states.specs.States.{no_names, id_at, record_of, body_at, body_record_of, holder_of, IsLive, IsLiveRef, AreLive};
 ghost use Rattle.chunk_refs.specs.Room.{spare_at, IsAtLeast, IsLeft};
 ghost use Rattle.name_states.specs.Steps.{IsOutside, with_id, with_body, copied, linked_ref, linked, registered, drawn_by, present, without_id};
 ghost use Rattle.cht_ids.specs.declared.refs.Ref.{Ref as AnyRef};
 ghost use Rattle.name_states.specs.Reached.{swept};
 ghost use Rattle.name_states.specs.Rules.{IsSound, AreWithin};
-ghost use Rattle.chunk_refs.specs.Deleting.{IsReleased, IsTaken, without_refs};
+ghost use Rattle.chunk_refs.specs.Deleting.{one_more, one_less, is_last, IsReleased, IsTaken, without_refs};
 ghost use Rattle.chunk_refs.specs.Inside.{names_of, room_of, shown_id, shown_chunk, refs_of, all_four, AreNull, chunk_at, ArePlaced, HasChain, IsPut};
 
 use crate::children::Children;
+use crate::counting::{count_less, count_more};
 use cht_ids::{Counter, Id, Memory, Ref};
 use chunk_store::Store;
 use name_states::Holder;
@@ -56,19 +56,6 @@ pub(crate) struct Parts<C: Payload> {
     pub bodies: u64,
 }
 
-// Writes the number of identifiers and the link of the body under a key.
-#[tactic(auto, using(chunk_store::proofs::Writes::writes))]
-fn write<C: Payload>(store: &mut Store<Chunk<C>>, key: u64, names: u64, next: Option<Spot>)
-    requires { IsSome (value_at store.old key) }
-    ensures { (chunk : _) → value_at store.old key ≡ Some chunk
-        → store.new ≡ with_value store.old key (record chunk { names = names; next = next }) }
-{
-    if let Some(chunk) = store.get_mut(key) {
-        chunk.names = names;
-        chunk.next = next;
-    }
-}
-
 impl<C: Payload> Parts<C> {
     /// What a live identifier names, and where.
     pub fn name(&self, id: Id) -> StoredId
@@ -87,15 +74,30 @@ impl<C: Payload> Parts<C> {
         self.stores[owner as usize].get(key).unwrap()
     }
 
-    // Writes the number of identifiers and the link of the body in a place.
-    fn set(&mut self, owner: u32, key: u64, names: u64, next: Option<Spot>)
-        requires { IsSome (chunk_at self.old.stores.items owner key) }
+    // Counts one identifier more for the body in a place.
+    fn count_more(&mut self, owner: u32, key: u64)
+        requires there { IsSome (chunk_at self.old.stores.items owner key) }
+        requires few { (chunk : _) → chunk_at self.old.stores.items owner key ≡ Some chunk → chunk.names < 2 ^ 63 }
         ensures placed { (chunk : _) → chunk_at self.old.stores.items owner key ≡ Some chunk
-            → ArePlaced self.old.stores.items self.new.stores.items owner key (Some (record chunk { names = names; next = next })) }
+            → ArePlaced self.old.stores.items self.new.stores.items owner key (Some (one_more chunk)) }
         ensures room { (room_of self.new).bodies ≡ (room_of self.old).bodies }
         ensures rest { self.new ≡ record self.old { stores = self.new.stores } }
     {
-        write(&mut self.stores[owner as usize], key, names, next);
+        count_more(&mut self.stores[owner as usize], key);
+    }
+
+    // Counts one identifier less for the body in a place. A body that has none left leads on to the first of the chain. Answers whether it
+    // has none left.
+    fn count_less(&mut self, owner: u32, key: u64, first: Option<Spot>) -> bool
+        requires there { IsSome (chunk_at self.old.stores.items owner key) }
+        requires some { (chunk : _) → chunk_at self.old.stores.items owner key ≡ Some chunk → 0 < chunk.names }
+        ensures placed { (chunk : _) → chunk_at self.old.stores.items owner key ≡ Some chunk
+            → ArePlaced self.old.stores.items self.new.stores.items owner key (Some (one_less chunk first)) }
+        ensures last { (chunk : _) → chunk_at self.old.stores.items owner key ≡ Some chunk → result ≡ is_last chunk }
+        ensures room { (room_of self.new).bodies ≡ (room_of self.old).bodies }
+        ensures rest { self.new ≡ record self.old { stores = self.new.stores } }
+    {
+        count_less(&mut self.stores[owner as usize], key, first)
     }
 
     // Takes the body out of a place that has one.
@@ -137,17 +139,12 @@ impl<C: Payload> Parts<C> {
         ensures room { (room_of self.new).bodies ≡ (room_of self.old).bodies }
         ensures rest { self.new ≡ record self.old { stores = self.new.stores } }
     {
-        let chunk = self.chunk(name.owner, name.key);
-        let left = chunk.names - 1;
-        let next = chunk.next;
-        if left == 0 {
-            self.set(name.owner, name.key, 0, first);
+        if self.count_less(name.owner, name.key, first) {
             Some(Spot {
                 owner: name.owner,
                 key: name.key,
             })
         } else {
-            self.set(name.owner, name.key, left, next);
             first
         }
     }
@@ -247,10 +244,7 @@ impl<C: Payload> Parts<C> {
     {
         let source = *self.ids.get(&from).unwrap();
         let _few = self.ids.len();
-        let chunk = self.chunk(source.owner, source.key);
-        let names = chunk.names + 1;
-        let next = chunk.next;
-        self.set(source.owner, source.key, names, next);
+        self.count_more(source.owner, source.key);
         self.put_id(number, StoredId { holder, ..source });
     }
 

@@ -30,18 +30,21 @@ use cht_ids::{Counter, List, Memory, Ref, TaskNo};
 use chunk_refs::Refs;
 use core_steps::{add_tasks, end_task, list_idle, read_place, register_chunks, renumbered, settle};
 use std::alloc::Global;
+use std::mem::replace;
 use task_graph::{TaskRow, Tasks};
 use task_states::Slot;
 use task_types::{NewChunk, NewTask, Outcome, Payload, Place, Places};
 
 // What is read of a task that finishes, its caller and the references of its inputs, and what its outcome fills: the references of its
-// new chunks, and the numbers of its new tasks. The lists are kept from one finish to the next, which uses their memory again.
+// new chunks, and the numbers of its new tasks. The lists are kept from one finish to the next, which uses their memory again. `ready` is the
+// list that the last finish answered, where it was given back.
 #[derive(Drop)]
 pub(crate) struct Space {
     pub caller: u32,
     pub inputs: Vec<Ref>,
     pub made: Vec<Ref>,
     pub numbers: Vec<TaskNo>,
+    pub ready: Vec<TaskNo>,
 }
 
 impl Space {
@@ -52,6 +55,7 @@ impl Space {
             inputs: Vec::new(alloc),
             made: Vec::new(alloc),
             numbers: Vec::new(alloc),
+            ready: Vec::new(alloc),
         }
     }
 }
@@ -208,6 +212,21 @@ fn resolve<C: Payload, K: Copy>(
     }
 }
 
+// An empty list with room for so many tasks, out of the memory of one that was given back.
+fn empty_ready(
+    alloc: Global,
+    given_back: &mut Vec<TaskNo>,
+    room: usize,
+) -> Result<Vec<TaskNo>, Memory>
+    ensures empty { IfOk result (λ ready. ready.items ≡ []) }
+    ensures room { IfOk result (λ ready. room ≤ vec_capacity ready) }
+{
+    let mut ready = replace(given_back, Vec::new(alloc));
+    ready.clear();
+    ready.reserve(room)?;
+    Ok(ready)
+}
+
 // All memory of a finish: the places for the journal, what the outcome fills, and room for it in the names and among the tasks. Answers an
 // empty list beside the places, with room for all tasks that can become Ready.
 fn prepare<C: Payload, K: Copy>(
@@ -236,8 +255,8 @@ fn prepare<C: Payload, K: Copy>(
 {
     let places = child_places(alloc, chunks)?;
     let count = make_finish_room(names, graph, w, task)?;
+    let ready = empty_ready(alloc, &mut space.ready, tasks + count as usize)?;
     make_space(graph, task, chunks.len(), tasks, space)?;
-    let ready = Vec::with_capacity(alloc, tasks + count as usize)?;
     Ok((places, ready))
 }
 
@@ -370,5 +389,11 @@ impl<C: Payload, K: Copy> CoreState<C, K> {
             result,
         });
         Ok(List::from_vec(ready))
+    }
+    /// Takes the list that a finish answered, so that the next finish uses its memory again. Nothing that is known of the core changes.
+    pub fn take_back(&mut self, ready: List<TaskNo>)
+        ensures { self.new ≡ self.old }
+    {
+        self.space.ready = ready.into_vec();
     }
 }

@@ -2,8 +2,8 @@ use Rattle.cht_plain.proofs.Ready.{wanted}
 use Rattle.cht_plain.proofs.Started.{begun_so}
 use Rattle.cht_plain.proofs.serving.begin_least.Goals as goal
 
-pub start-requires-clause-idle : goal.start-requires-clause-idle
-start-requires-clause-idle g c κs within = c.requires.waiting.idle 0
+pub begin-requires-clause-idle : goal.begin-requires-clause-idle
+begin-requires-clause-idle g c κs within = c.requires.waiting.idle 0
 
 pub unreachable-requires-in-End : goal.unreachable-requires-in-End
 unreachable-requires-in-End g c = c.in-End.ensures c.requires.ready.0 (wanted _ _ c.requires.ready.1)
@@ -13,4 +13,4 @@ unreachable-requires-in-Later g c = c.in-Later.ensures.1 c.requires.ready.0 c.re
 
 pub returns-in-Started : goal.returns-in-Started
 returns-in-Started g c =
-    begun_so g.L.Library.meanings g.L.Chunk.Payload.arity c.args.core.now c.start.new.self c.in-Run.task c.in-Started.started c.requires.waiting c.in-Started.ensures
+    begun_so g.L.Library.meanings g.L.Chunk.Payload.arity c.args.core.now c.begin.new.self c.in-Run.task c.in-Started.started c.requires.waiting c.in-Started.ensures

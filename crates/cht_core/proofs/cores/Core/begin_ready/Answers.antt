@@ -7,7 +7,7 @@ use Rattle.cht_core.proofs.FinishAllowed.{idle_runs_nothing}
 use Rattle.cht_core.specs.Granted.{AreLiveInputs}
 use Rattle.cht_core.proofs.InputTrees.{inputs_live}
 use Rattle.cht_core.proofs.StartCalls.{status_now, begun}
-use Rattle.cht_core.proofs.cores.Core.start_ready.Goals as goal
+use Rattle.cht_core.proofs.cores.Core.begin_ready.Goals as goal
 
 pub start-requires-clause-idle : goal.start-requires-clause-idle
 start-requires-clause-idle g c κs within =
@@ -39,8 +39,8 @@ returns-in_default-start g c =
     let ready = ap (λ (core : Contents g.row.L-Chunk.Denot g.row.L-Kind.Denot). status core.control.graph c.args.task) c.self.view_is ∙ c.requires.ready in
     (sym (status_now g.L.Library.meanings c.self.inside.kept c.args.self.now c.self.view_is c.args.task) ∙ ready, c.in_default-start.ensures.unchanged ∙ c.self.view_is)
 
-pub grants-requires-clause-live : goal.grants-requires-clause-live
-grants-requires-clause-live g c κs within =
+pub views-requires-clause-live : goal.views-requires-clause-live
+views-requires-clause-live g c κs within =
     subst (λ (core : Contents g.row.L-Chunk.Denot g.row.L-Kind.Denot). AreLiveInputs core.control.names (unfinished_in c.args.row.now).inputs) c.self.view_is
     (inputs_live g.L.Chunk.Payload.arity c.self.inside.kept.control c.self.invariant.comes.ordered c.args.task (unfinished_in c.args.row.now)
     (ap (λ (core : Contents g.row.L-Chunk.Denot g.row.L-Kind.Denot). task_at core.control.graph c.args.task) c.self.view_is ∙ c.requires.row))
