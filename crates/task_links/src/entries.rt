@@ -11,7 +11,8 @@ ghost use Rattle.task_links.specs.Kept.{opened, opened_place, joined_if};
 ghost use Rattle.task_links.specs.Weave.{head_at, link_at, with_next, with_joined, with_passed, with_joined_at, with_passed_at, IsBeside, count_of};
 ghost use Rattle.task_links.specs.Order.{with_after_at, with_before_at};
 
-use crate::kept::{Kept, KeptPlace, Quarters, kept_place, link_in, split_if};
+use crate::kept::{Kept, KeptPlace, kept_place, link_in};
+use crate::quarters::{Quarters, split_if};
 use cht_ids::Ref;
 use std::collections::HashMap;
 

@@ -1,5 +1,4 @@
-// Entries of tasks as they are kept: numbers in quarters, so that nothing is aligned to more than 4 bytes, and few bytes for what
-// may be missing.
+// Entries of tasks as they are kept: numbers in quarters, and few bytes for what may be missing.
 ghost use Rattle.std.specs.Prelude.{◌≡◌, ◌<◌, ◌≤◌, ◌+◌, ◌*◌, ◌^◌, map as each, set, slice_get, Some, IsSome, IfSome};
 ghost use Rattle.task_links.specs.declared.entries.Place.TheVariants.{Awaits};
 ghost use Rattle.std.specs.List.{list_any};
@@ -9,17 +8,9 @@ ghost use Rattle.task_links.specs.Weave.{link_of, instead, last_behind};
 ghost use Rattle.task_links.specs.Kept.{joined, joined_if, opened_place, first_in, last_in, opened};
 
 use crate::entries::{Entry, Link, Place, Spot};
+use crate::quarters::{Quarters, split, split_if, whole, whole_if};
 use cht_ids::{Id, Ref};
 use task_states::TaskStatus;
-
-/// A number of 128 bits in quarters: 2^32, 2^64 and 2^96 times the others, and the low one.
-#[derive(Clone, Copy)]
-pub struct Quarters {
-    pub low: u32,
-    pub second: u32,
-    pub third: u32,
-    pub high: u32,
-}
 
 /// An input: null; the owner and the number of a reference; the awaited task and the input's own number, without a next
 /// input; or the place of the next input, the awaited task, the input's own number, and the task of the next input.
@@ -60,68 +51,6 @@ pub struct Kept<K> {
 const _: () = prove!(size_of::<KeptPlace>() == 52);
 
 const _: () = prove!(size_of::<KeptEnds>() == 36);
-
-const QUARTER: u64 = 0x1_0000_0000;
-
-const HALF: u128 = 0x1_0000_0000_0000_0000;
-
-// Two quarters as one number.
-#[inline(always)]
-fn half(low: u32, high: u32) -> u64
-    ensures { result ≡ high * 2 ^ 32 + low }
-{
-    high as u64 * QUARTER + low as u64
-}
-
-// The quarters of two numbers of 64 bits.
-#[inline(always)]
-fn joint(low: u64, high: u64) -> Quarters
-    ensures { joined result ≡ high * 2 ^ 64 + low }
-{
-    Quarters {
-        low: (low % QUARTER) as u32,
-        second: (low / QUARTER) as u32,
-        third: (high % QUARTER) as u32,
-        high: (high / QUARTER) as u32,
-    }
-}
-
-// A number in quarters.
-#[inline(always)]
-fn split(number: u128) -> Quarters
-    ensures { joined result ≡ number }
-{
-    joint((number % HALF) as u64, (number / HALF) as u64)
-}
-
-// The number of four quarters.
-#[inline(always)]
-fn whole(number: Quarters) -> u128
-    ensures { result ≡ joined number }
-{
-    let low = half(number.low, number.second);
-    let high = half(number.third, number.high);
-    high as u128 * HALF + low as u128
-}
-
-// A number that may be missing, in quarters, and whether it is there.
-#[inline(always)]
-pub(crate) fn split_if(number: Option<u128>) -> (Quarters, bool)
-    ensures { joined_if result.0 result.1 ≡ number }
-{
-    match number {
-        None => (joint(0, 0), false),
-        Some(number) => (split(number), true),
-    }
-}
-
-// The number of four quarters, if it is there.
-#[inline(always)]
-fn whole_if(number: Quarters, there: bool) -> Option<u128>
-    ensures { result ≡ joined_if number there }
-{
-    if there { Some(whole(number)) } else { None }
-}
 
 // An awaiting input as it is kept.
 #[inline(always)]
@@ -301,6 +230,14 @@ fn places(kept: &[KeptPlace; 4]) -> [Place; 4]
 }
 
 impl KeptPlace {
+    /// The input.
+    #[inline(always)]
+    pub fn open(self) -> Place
+        ensures { result ≡ opened_place self }
+    {
+        place(self)
+    }
+
     // Whether the input awaits a task.
     #[inline(always)]
     fn is_awaiting(&self) -> bool
@@ -315,8 +252,9 @@ impl KeptPlace {
     }
 }
 
-// Whether one of these inputs awaits a task.
-fn any_awaits(places: &[KeptPlace]) -> bool
+/// Whether one of these inputs awaits a task.
+#[inline]
+pub fn any_awaits(places: &[KeptPlace]) -> bool
     ensures { result ≡ list_any (λ place. is_awaiting (shown_place (opened_place place))) places.now }
 {
     places.iter().any(|place| place.is_awaiting())

@@ -7,6 +7,7 @@ use std::alloc::Global;
 use std::cmp::Reverse;
 use std::collections::BinaryHeap;
 
+/// Numbers, from which the least is taken out. One that is no longer wanted stays until it is the least.
 #[derive(Drop)]
 pub struct Queue {
     pub heap: BinaryHeap<Reverse<u128>>,
