@@ -1,6 +1,6 @@
 // Entries of tasks as they are kept: numbers in quarters, and few bytes for what may be missing.
-ghost use Rattle.std.specs.Prelude.{◌≡◌, ◌<◌, ◌≤◌, ◌+◌, ◌*◌, ◌^◌, map as each, set, slice_get, Some, IsSome, IfSome};
-ghost use Rattle.task_links.specs.declared.entries.Place.TheVariants.{Awaits};
+ghost use Rattle.std.specs.Prelude.{◌≡◌, ◌<◌, ◌≤◌, ◌+◌, ◌*◌, ◌^◌, map as each, set, slice_get, None, Some, IsSome, IfSome};
+ghost use Rattle.task_links.specs.declared.entries.Place.TheVariants.{Known, Awaits};
 ghost use Rattle.std.specs.List.{list_any};
 ghost use Rattle.task_states.specs.States.{is_awaiting, status_of};
 ghost use Rattle.task_links.specs.Inside.{shown_place, shown_entry, inputs_of};
@@ -203,19 +203,6 @@ fn last(ends: KeptEnds) -> Option<Spot>
     }
 }
 
-// Inputs as they are kept.
-#[inline(always)]
-fn kept_places(places: &[Place; 4]) -> [KeptPlace; 4]
-    ensures { each opened_place result ≡ places.now }
-{
-    [
-        kept_place(places[0]),
-        kept_place(places[1]),
-        kept_place(places[2]),
-        kept_place(places[3]),
-    ]
-}
-
 // Inputs that are kept.
 #[inline(always)]
 fn places(kept: &[KeptPlace; 4]) -> [Place; 4]
@@ -230,6 +217,14 @@ fn places(kept: &[KeptPlace; 4]) -> [Place; 4]
 }
 
 impl KeptPlace {
+    /// What is kept of an input that is there.
+    #[inline(always)]
+    pub fn known(r: Ref) -> KeptPlace
+        ensures { opened_place result ≡ Known r }
+    {
+        kept_place(Place::Known(r))
+    }
+
     /// The input.
     #[inline(always)]
     pub fn open(self) -> Place
@@ -339,14 +334,6 @@ impl<K: Copy> Kept<K> {
         }
     }
 
-    /// The inputs at all four places, of which the first `count` are the task's.
-    #[inline(always)]
-    pub fn open_places(&self) -> [Place; 4]
-        ensures { result ≡ (opened self.now).places }
-    {
-        places(&self.places)
-    }
-
     // The input at a place, as it is kept.
     #[inline(always)]
     pub(crate) fn place(&self, place: u8) -> KeptPlace
@@ -410,27 +397,41 @@ impl<K: Copy> Kept<K> {
         self.ends = kept_ends(next, last);
     }
 
-    /// An entry as it is kept.
+    /// A task with these inputs, which nobody awaits and no worker runs. It stands beside no other.
     #[inline(always)]
-    pub fn of(entry: &Entry<K>) -> Kept<K>
-        ensures { opened result ≡ entry.now }
+    pub fn alone(caller: u32, kind: K, count: u32, places: [KeptPlace; 4]) -> Kept<K>
+        ensures { opened result ≡ record { caller = caller; kind = kind; runner = None; asked = None; count = count; places = each opened_place places; first = None; last = None; before = None; after = None } }
     {
-        let (asked, is_asked) = split_if(entry.asked);
-        let (before, has_before) = split_if(entry.before);
-        let (after, has_after) = split_if(entry.after);
+        let none = split(0);
         Kept {
-            places: kept_places(&entry.places),
-            ends: kept_ends(entry.first, entry.last),
-            asked,
+            places,
+            ends: KeptEnds::Neither,
+            asked: none,
+            before: none,
+            after: none,
+            runner: None,
+            caller,
+            count,
+            is_asked: false,
+            has_before: false,
+            has_after: false,
+            kind,
+        }
+    }
+
+    /// The same task between two others of its caller.
+    #[inline(always)]
+    pub fn between(self, before: Option<u128>, after: Option<u128>) -> Kept<K>
+        ensures { opened result ≡ record (opened self) { before = before; after = after } }
+    {
+        let (before, has_before) = split_if(before);
+        let (after, has_after) = split_if(after);
+        Kept {
             before,
             after,
-            runner: entry.runner,
-            caller: entry.caller,
-            count: entry.count,
-            is_asked,
             has_before,
             has_after,
-            kind: entry.kind,
+            ..self
         }
     }
 

@@ -26,6 +26,7 @@ impl Queue {
     }
 
     /// The least number, if there is one.
+    #[inline]
     pub fn least(&self) -> Option<u128>
         requires { IsQueue self.now }
         ensures { IsQueueLeast self.now result }
@@ -49,6 +50,7 @@ impl Queue {
     }
 
     /// One more number, for which there is room.
+    #[inline]
     pub fn push(&mut self, number: u128)
         requires queue { IsQueue self.old }
         requires room { queue_len self.old < queue_capacity self.old }
@@ -62,6 +64,7 @@ impl Queue {
     }
 
     /// Whether there is no room for one more number.
+    #[inline]
     pub fn is_full(&self) -> bool
         ensures { IsTrue result ↔ (queue_capacity self.now ≤ queue_len self.now) }
     {
