@@ -1,5 +1,5 @@
 -- One after another of those that await a task gets its copy, until nobody awaits it.
-use Rattle.std.proofs.Common.{◌≡◌, ℕ, ◌+◌, ◌≤◌, ◌⊎◌, inl, inr, false, nat_eq, List, [], ◌∷◌, ◌++◌, length, Option, None, Some, refl, sym, ap, subst, ◌∙◌, arith}
+use Rattle.std.proofs.Common.{◌≡◌, ℕ, Bool, cond, ◌+◌, ◌≤◌, ◌⊎◌, inl, inr, false, nat_eq, List, [], ◌∷◌, ◌++◌, length, Option, None, Some, refl, sym, ap, subst, ◌∙◌, arith}
 use Rattle.std.specs.Prelude.{set}
 use Rattle.std.specs.Option.{option_map}
 use Rattle.std.specs.List.{Contains, IsDistinct, AllByRecursion}
@@ -32,7 +32,19 @@ use Rattle.name_machine.proofs.FinishNames.{IsIn, IsCopy, GrowBy, grow_copy}
 use Rattle.name_machine.proofs.FinishNamesOrder.{AreFree, copies_in_any_order}
 use Rattle.name_machine.proofs.FinishTasks.{free_by}
 use Rattle.name_machine.proofs.FinishAwaiting.{IsAwaiter as IsNumbered, ByInput, ByAsk, awaiter_of, awaiter_in}
-use Rattle.core_steps.specs.Delivered.{holder_for, asked_by, listed_if, with_ready, AreSetApart, IsNowReady}
+use Rattle.task_graph.specs.Contents.{is_ready, is_ready_at}
+use Rattle.core_steps.specs.Delivered.{holder_for, asked_by, listed_if, listed_by, with_ready, AreSetApart, IsNowReady}
+
+listed_at : (status : TaskStatus) (task : ℕ) (tasks : List ℕ) → cond (is_ready status) (tasks ++ task ∷ []) tasks ≡ listed_if status task tasks
+listed_at Unknown task tasks = refl
+listed_at Waiting task tasks = refl
+listed_at Ready task tasks = refl
+listed_at Running task tasks = refl
+
+-- what is told of a task is what its status says
+pub listed_ready : {K : Type 0} (graph : Graph Ref K) (a : Awaiter) (tasks : List ℕ) (told : Bool) → told ≡ is_ready_at graph a → listed_by told a tasks ≡ with_ready graph a tasks
+listed_ready graph (AtInput task place number) tasks told is = ap (λ b. cond b (tasks ++ task ∷ []) tasks) is ∙ listed_at (status graph task) task tasks
+listed_ready graph (Asked caller number) tasks told is = refl
 
 -- ---- Awaiters, and the list of numbers and holders
 

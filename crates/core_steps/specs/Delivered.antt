@@ -1,5 +1,5 @@
 -- What is handed to those that await a task: copies under the numbers that were drawn for them, and which tasks become Ready by it.
-use Rattle.std.specs.Prelude.{◌≡◌, ℕ, ◌++◌, List, [], ◌∷◌, Option, None, Some}
+use Rattle.std.specs.Prelude.{◌≡◌, ℕ, Bool, cond, ◌++◌, List, [], ◌∷◌, Option, None, Some}
 use Rattle.cht_ids.specs.declared.refs.Ref.{Ref}
 use Rattle.name_states.specs.declared.holder.Holder.{Holder}
 use Rattle.name_states.specs.declared.holder.Holder.TheVariants.{Caller as ByCaller, Task as ByTask}
@@ -27,6 +27,11 @@ listed_if Unknown task tasks = tasks
 listed_if Waiting task tasks = tasks
 listed_if Ready task tasks = tasks ++ task ∷ []
 listed_if Running task tasks = tasks
+
+-- the task whose input an awaiter is at the end of others, where it is told to be Ready
+abbrev pub listed_by : Bool → Awaiter → List ℕ → List ℕ
+listed_by is_ready (AtInput task place number) tasks = cond is_ready (tasks ++ task ∷ []) tasks
+listed_by is_ready (Asked caller number) tasks = tasks
 
 -- Numbers under which a task is awaited: each is free in the names, and no two awaiters have one.
 pub record AreSetApart {C K : Type 0} (names : NameState C) (graph : Graph Ref K) (task : ℕ) : Type 0 where

@@ -11,13 +11,13 @@ ghost use Rattle.task_states.specs.Steps.{all_delivered};
 ghost use Rattle.task_states.specs.Awaiters.{number_of, IsAwaiter, IsNotAwaited};
 ghost use Rattle.task_states.specs.Listing.{awaiters};
 ghost use Rattle.name_machine.specs.Control.{with_number, copy_of, copies_of, awaiting};
-ghost use Rattle.core_steps.specs.Delivered.{holder_for, asked_by, with_ready, AreSetApart, IsNowReady};
+ghost use Rattle.core_steps.specs.Delivered.{holder_for, asked_by, listed_by, AreSetApart, IsNowReady};
 
 use cht_ids::{Id, Ref, TaskNo};
 use chunk_refs::Refs;
 use name_states::Holder;
 use task_graph::Tasks;
-use task_states::{Awaiter, TaskStatus};
+use task_states::Awaiter;
 use task_types::Payload;
 
 /// A reference with another number; null for null.
@@ -72,19 +72,18 @@ fn copy_for<C: Payload>(names: &mut Refs<C>, r: Ref, awaiter: &Awaiter) -> Ref
 }
 
 // The task whose input an awaiter was, at the end of others, if it is Ready.
-fn list_if_ready<K: Copy>(graph: &Tasks<K>, awaiter: &Awaiter, ready: &mut Vec<TaskNo>)
+fn list_if_ready(awaiter: &Awaiter, is_ready: bool, ready: &mut Vec<TaskNo>)
     requires { vec_len ready.old + 1 ≤ vec_capacity ready.old }
-    ensures ready { ready.new.items ≡ with_ready graph.now.graph awaiter.now ready.old.items }
+    ensures ready { ready.new.items ≡ listed_by is_ready awaiter.now ready.old.items }
     ensures len { vec_len ready.new ≤ vec_len ready.old + 1 }
     ensures capacity { vec_capacity ready.new ≡ vec_capacity ready.old }
 {
     match awaiter {
-        Awaiter::Input { task, .. } => match graph.status(*task) {
-            TaskStatus::Unknown => {}
-            TaskStatus::Waiting => {}
-            TaskStatus::Ready => ready.push_reserved(*task),
-            TaskStatus::Running => {}
-        },
+        Awaiter::Input { task, .. } => {
+            if is_ready {
+                ready.push_reserved(*task);
+            }
+        }
         Awaiter::Asked { .. } => {}
     }
 }
@@ -134,8 +133,8 @@ pub fn settle<C: Payload, K: Copy>(
     let mut asked = None;
     while let Some(awaiter) = graph.awaiter(task) {
         let copy = copy_for(names, r, &awaiter);
-        graph.deliver(task, copy);
-        list_if_ready(graph, &awaiter, ready);
+        let is_ready = graph.deliver_to(task, &awaiter, copy);
+        list_if_ready(&awaiter, is_ready, ready);
         asked = asked_or(&awaiter, asked);
     }
     asked

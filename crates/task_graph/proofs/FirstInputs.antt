@@ -1,27 +1,32 @@
 -- The first input that awaits a task, and what comes of a reference for it.
-use Rattle.std.proofs.Common.{◌≡◌, ℕ, Bool, true, false, Some, None, is_some, refl, sym, ap, ap₂, subst, ◌∙◌, ◌⊎◌, inl, inr, set}
-use Rattle.std.specs.Prelude.{if◌then◌else◌}
+use Rattle.std.proofs.Common.{◌≡◌, ℕ, zero, suc, ◌<◌, ◌≤◌, Bool, true, false, not, Option, Some, None, is_some, List, [], ◌∷◌, take, refl, sym, ap, ap₂, subst, ◌∙◌, ◌⊎◌, inl, inr, set, arith}
+use Rattle.std.specs.Prelude.{if◌then◌else◌, slice_get}
 use Rattle.std.specs.List.{list_any}
 use Rattle.std.specs.Option.{option_map}
 use Rattle.cht_ids.specs.declared.refs.Ref.{Ref}
 use Rattle.task_states.specs.declared.states.Awaiter.{Awaiter}
 use Rattle.task_states.specs.declared.states.Awaiter.TheVariants.{Input as AtInput, Asked}
-use Rattle.task_states.specs.declared.states.TaskStatus.TheVariants.{Waiting, Ready, Running}
-use Rattle.task_states.specs.States.{Known, Unfinished, Graph, is_awaiting, is_stopped, task_at}
+use Rattle.task_states.specs.declared.states.TaskStatus.{TaskStatus}
+use Rattle.task_states.specs.declared.states.TaskStatus.TheVariants.{Unknown, Waiting, Ready, Running}
+use Rattle.task_states.specs.States.{Known, Unfinished, Graph, is_awaiting, is_stopped, task_at, status, status_of}
 use Rattle.task_states.specs.Steps.{with_task, delivered, without_asked}
 use Rattle.task_states.specs.Awaiters.{IsLeastAwaiter, IsRunnable}
 use Rattle.task_states.proofs.Options.{not_none, same_some, map_behind}
 use Rattle.task_states.proofs.Runnables.{runs_changed, runs_from, ready_of}
 use Rattle.task_links.specs.declared.entries.Entry.{Entry}
+use Rattle.task_links.specs.declared.entries.Link.{Link}
+use Rattle.task_links.specs.declared.entries.Place.TheVariants.{Awaits}
 use Rattle.task_links.specs.declared.entries.Spot.{Spot}
-use Rattle.task_links.specs.Inside.{entries_at, shown_at, shown_entry}
-use Rattle.task_links.specs.Weave.{Head, head_at, head_of, link_at, IsFirst}
+use Rattle.task_links.specs.Inside.{entries_at, shown_at, shown_entry, caller_in, place_in, inputs_of}
+use Rattle.task_links.specs.Weave.{Head, head_at, head_of, link_at, link_of, IsFirst}
+use Rattle.task_links.proofs.Writing.{awaits_behind}
+use Rattle.task_graph.specs.Contents.{is_ready}
 use Rattle.task_graph.specs.declared.parts.Parts.{Parts}
 use Rattle.task_graph.specs.Graphs.{graph_of, IsWhole}
 use Rattle.task_graph.specs.Reading.{spot_of}
-use Rattle.task_graph.proofs.Awaiting.{no_input, first_link, input_first, one_least}
+use Rattle.task_graph.proofs.Awaiting.{no_input, first_link, input_first, input_awaits, input_least, link_behind, one_least}
 use Rattle.task_graph.proofs.Keeping.{entry_behind_head}
-use Rattle.task_graph.proofs.Runs.{task_is, task_there}
+use Rattle.task_graph.proofs.Runs.{task_is, task_there, caller_low}
 use Rattle.task_graph.proofs.Staying.{idle_of, there_changed}
 
 module _ {K : Type 0} (parts : Parts K) (t : ℕ) (e : Entry K) (whole : IsWhole parts) (is : entries_at parts.entries t ≡ Some e) where
@@ -44,18 +49,60 @@ module _ {K : Type 0} (parts : Parts K) (t : ℕ) (e : Entry K) (whole : IsWhole
       subst (IsFirst (head_at (entries_at parts.entries)) (link_at (entries_at parts.entries))) (same_some spot other same)
       (f.0, head_of e, f.1, ap (head_at (entries_at parts.entries)) f.2 ∙ ap (option_map head_of) is, first)
 
-  own_spot : (spot : Spot) (u : Unfinished Ref K) → e.first ≡ Some spot → task_at (graph_of parts) spot.task ≡ Some u → u.caller ≡ e.caller
-  own_spot spot u first there =
+  -- an input that is a least awaiter is the first of the list
+  least_at : (first : Option Spot) → e.first ≡ first → (s j n : ℕ) → IsLeastAwaiter (graph_of parts) t (AtInput s j n) → IsFirst (head_at (entries_at parts.entries)) (link_at (entries_at parts.entries)) (record { task = s; place = j })
+  least_at None first s j n least = absurd (no_input parts t e whole is first s j n least.awaits)
+  least_at (Some spot) first s j n least =
       let f = first_link parts t e whole is spot first in
-      let home = whole.woven.home spot f.0 f.1 in
-      let awaited : home.1 ≡ head_of e = same_some home.1 (head_of e) (sym home.3 ∙ ap (head_at (entries_at parts.entries)) f.2 ∙ ap (option_map head_of) is) in
-      let own = entry_behind_head (entries_at parts.entries) spot.task home.0 home.2 in
-      let shown : shown_entry own.0 ≡ u = same_some (shown_entry own.0) u (sym (task_there parts spot.task own.0 own.1) ∙ there) in
-      sym (ap (λ (x : Unfinished Ref K). x.caller) shown) ∙ ap (λ (h : Head). h.caller) own.2 ∙ sym home.4 ∙ ap (λ (h : Head). h.caller) awaited
+      let l = link_behind parts s j t n least.awaits in
+      let low = input_least parts t e whole is spot f.0 first f.1 s j n least.awaits in
+      let high = least.least (AtInput spot.task spot.place f.0.number) (input_awaits parts t e whole is spot f.0 first f.1) in
+      let number : n ≡ f.0.number = omega arith in
+      subst (IsFirst (head_at (entries_at parts.entries)) (link_at (entries_at parts.entries))) (sym (whole.woven.apart (record { task = s; place = j }) spot l.0 f.0 l.1 f.1 (l.3 ∙ number)))
+      (f.0, head_of e, f.1, ap (head_at (entries_at parts.entries)) f.2 ∙ ap (option_map head_of) is, first)
 
-  -- its task belongs to the same caller
-  pub own_is : (spot other : Spot) (u : Unfinished Ref K) → e.first ≡ Some spot → Some spot ≡ Some other → task_at (graph_of parts) other.task ≡ Some u → u.caller ≡ e.caller
-  own_is spot other u first same there = own_spot spot u first (ap (λ (s : Spot). task_at (graph_of parts) s.task) (same_some spot other same) ∙ there)
+pub least_first : {K : Type 0} (parts : Parts K) (t s j n : ℕ) → IsWhole parts → IsLeastAwaiter (graph_of parts) t (AtInput s j n) → IsFirst (head_at (entries_at parts.entries)) (link_at (entries_at parts.entries)) (record { task = s; place = j })
+least_first parts t s j n whole least =
+    let l = link_behind parts s j t n least.awaits in
+    let home = whole.woven.home (record { task = s; place = j }) l.0 l.1 in
+    let e = entry_behind_head (entries_at parts.entries) l.0.task home.1 home.3 in
+    least_at parts t e.0 whole (ap (entries_at parts.entries) (sym l.2) ∙ e.1) e.0.first refl s j n least
+
+short_list : {X : Type 0} (xs : List X) (count j : ℕ) (x : X) → slice_get (take count xs) j ≡ Some x → j < count
+short_list xs zero j x is = absurd (not_none None x refl is)
+short_list [] (suc count) j x is = absurd (not_none None x refl is)
+short_list (y ∷ xs) (suc count) zero x is = omega arith
+short_list (y ∷ xs) (suc count) (suc j) x is = let low = short_list xs count j x is in omega arith
+
+-- a place that an awaiter tells is one of four
+place_in_four : {K : Type 0} (o : Option (Entry K)) (j : ℕ) (l : Link) → ((e : Entry K) → o ≡ Some e → e.count ≤ 4) → link_of (place_in o j) ≡ Some l → j < 4
+place_in_four None j l short is = absurd (not_none None l refl is)
+place_in_four (Some e) j l short is =
+    let found = awaits_behind (slice_get (inputs_of e) j) l is in
+    let low = short_list e.places e.count j (Awaits l) found in
+    let few = short e refl in
+    omega arith
+
+pub least_low : {K : Type 0} (parts : Parts K) (t s j n : ℕ) → IsWhole parts → IsLeastAwaiter (graph_of parts) t (AtInput s j n) → j < 4
+least_low parts t s j n whole least =
+    let l = link_behind parts s j t n least.awaits in
+    place_in_four (entries_at parts.entries s) j l.0 (λ e is. whole.short s e is) l.1
+
+-- the caller of a task, by its entry
+pub caller_is : {K : Type 0} (parts : Parts K) (q caller : ℕ) (u : Unfinished Ref K) → option_map caller_in (entries_at parts.entries q) ≡ Some caller → task_at (graph_of parts) q ≡ Some u → u.caller ≡ caller
+caller_is {K} parts q caller u is there =
+    let e = map_behind caller_in (entries_at parts.entries q) caller is in
+    let shown : shown_entry e.0 ≡ u = same_some (shown_entry e.0) u (sym (task_there parts q e.0 e.1) ∙ there) in
+    sym (ap (λ (x : Unfinished Ref K). x.caller) shown) ∙ e.2
+
+pub low_caller : {K : Type 0} (parts : Parts K) → IsWhole parts → (q caller : ℕ) → option_map caller_in (entries_at parts.entries q) ≡ Some caller → caller < 64
+low_caller parts whole q caller is =
+    let e = map_behind caller_in (entries_at parts.entries q) caller is in
+    subst (λ n. n < 64) e.2 (caller_low parts whole q e.0 e.1)
+
+ready_if : (waits : Bool) → is_ready (if waits then Waiting else (if false then Running else Ready)) ≡ not waits
+ready_if true = refl
+ready_if false = refl
 
 -- whether a task waits, as contracts see it
 pub waits_is : {K : Type 0} (parts : Parts K) (q : ℕ) (b : Bool) → option_map {U = Bool} (λ (u : Unfinished Ref K). list_any is_awaiting u.inputs) (shown_at (entries_at parts.entries) q) ≡ Some b
@@ -117,6 +164,17 @@ module _ {K : Type 0} (old new : Graph Ref K) (spot : Spot) (r : Ref) (made : ne
   pub ready_settled : (u : Unfinished Ref K) → task_at old spot.task ≡ Some u → u.runner ≡ None → option_map {U = Bool} (λ (u : Unfinished Ref K). list_any is_awaiting u.inputs) (task_at new spot.task) ≡ Some false → is_stopped old u.caller ≡ false
       → (q : ℕ) → Some spot.task ≡ Some q → IsRunnable new q
   ready_settled u there idle waits going q same = subst (IsRunnable new) (same_some spot.task q same) (settled_runs u there idle waits going)
+
+  -- whether it is Ready then
+  pub ready_told : (u : Unfinished Ref K) → task_at old spot.task ≡ Some u → u.runner ≡ None → (waits : Bool) → option_map {U = Bool} (λ (u : Unfinished Ref K). list_any is_awaiting u.inputs) (task_at new spot.task) ≡ Some waits
+      → is_ready (status new spot.task) ≡ not waits
+  unfolding change
+  ready_told u there idle waits told =
+      let is : task_at new spot.task ≡ Some (change u) = there_new ∙ ap (option_map change) there in
+      let test = same_some (list_any is_awaiting (change u).inputs) waits (sym (ap (option_map {U = Bool} (λ (u : Unfinished Ref K). list_any is_awaiting u.inputs)) is) ∙ told) in
+      ap (λ (o : Option (Unfinished Ref K)). is_ready (elim o as (λ _. TaskStatus) [ None ↦ Unknown | Some task ↦ status_of task ])) is
+      ∙ ap₂ (λ w s. is_ready (if w then Waiting else (if s then Running else Ready))) test (ap is_some idle)
+      ∙ ready_if waits
 
 -- the task of a first input, which no worker runs
 pub waiting_entry : {K : Type 0} (parts : Parts K) (spot : Spot) → IsWhole parts → IsFirst (head_at (entries_at parts.entries)) (link_at (entries_at parts.entries)) spot

@@ -1,10 +1,14 @@
 -- What contracts see of `Tasks`, and what its calls want.
-use Rattle.std.specs.Prelude.{◌≡◌, ℕ, List, [], ◌∷◌, map as each, Some, refl}
+use Rattle.std.specs.Prelude.{◌≡◌, ℕ, Bool, true, false, List, [], ◌∷◌, map as each, Some, refl}
 use Rattle.std.specs.Coded.{Coded, code_by, coded×, coded_ℕ}
 use Rattle.cht_ids.specs.declared.refs.Ref.{Ref}
 use Rattle.task_states.specs.declared.states.Slot.{Slot}
 use Rattle.task_states.specs.declared.states.Slot.TheVariants.{Known, Awaits}
-use Rattle.task_states.specs.States.{Input, Known as KnownInput, Awaits as AwaitsTask, Graph, caller_of, asked_of}
+use Rattle.task_states.specs.declared.states.Awaiter.{Awaiter}
+use Rattle.task_states.specs.declared.states.Awaiter.TheVariants.{Input as AtInput, Asked}
+use Rattle.task_states.specs.declared.states.TaskStatus.{TaskStatus}
+use Rattle.task_states.specs.declared.states.TaskStatus.TheVariants.{Unknown, Waiting, Ready, Running}
+use Rattle.task_states.specs.States.{Input, Known as KnownInput, Awaits as AwaitsTask, Graph, status, caller_of, asked_of}
 use Rattle.task_states.specs.Awaiters.{IsFree}
 use Rattle.task_states.specs.Codes.{graph_code, ref_code}
 
@@ -32,7 +36,19 @@ IsNumberOfNone number [] = Unit {0}
 IsNumberOfNone number (Known r ∷ slots) = IsNumberOfNone number slots
 IsNumberOfNone number (Awaits task other ∷ slots) = (other ≡ number → ⊥) × IsNumberOfNone number slots
 
+-- whether a status is Ready
+abbrev pub is_ready : TaskStatus → Bool
+is_ready Unknown = false
+is_ready Waiting = false
+is_ready Ready = true
+is_ready Running = false
+
 module _ {K : Type 0} where
+  -- whether the task whose input an awaiter is, is Ready; not where the awaiter is a caller that asked
+  abbrev pub is_ready_at : Graph Ref K → Awaiter → Bool
+  is_ready_at graph (AtInput task place number) = is_ready (status graph task)
+  is_ready_at graph (Asked caller number) = false
+
   -- each awaited task is there and belongs to a caller
   abbrev pub AreOf : Graph Ref K → ℕ → List Slot → Type 0
   AreOf graph caller [] = Unit {0}

@@ -4,57 +4,49 @@ ghost use Rattle.std.specs.HashMap.{hash_map_len};
 ghost use Rattle.task_states.specs.States.{task_at};
 ghost use Rattle.task_states.specs.Steps.{added};
 ghost use Rattle.task_links.specs.Inside.{shown_entry, room_of};
+ghost use Rattle.task_links.specs.Kept.{opened, opened_place};
 ghost use Rattle.task_graph.specs.Contents.{inputs_given, AreOf, AreFree};
 ghost use Rattle.task_graph.specs.Graphs.{graph_of, IsWhole, IsBare};
 ghost use Rattle.task_graph.specs.Adding.{known_place, bare_input};
 
 use crate::parts::Parts;
-use cht_ids::Ref;
-use task_links::{Entry, Place, Spot};
+use task_links::{Kept, KeptPlace, Spot};
 use task_states::Slot;
 
-// An input without what it awaits.
-fn known(slot: &Slot) -> Place
-    ensures { result ≡ known_place slot.now }
+// An input as it is kept, without what it awaits.
+#[inline(always)]
+fn known(slot: &Slot) -> KeptPlace
+    ensures { opened_place result ≡ known_place slot.now }
 {
     match slot {
-        Slot::Known(r) => Place::Known(*r),
-        Slot::Awaits(_, _) => Place::Known(Ref::Null),
+        Slot::Known(r) => KeptPlace::known(*r),
+        Slot::Awaits(_, _) => KeptPlace::Null,
     }
 }
 
-// Inputs without what they await, and null ones behind them.
-fn known_places(inputs: &[Slot]) -> [Place; 4]
+// Inputs as they are kept, without what they await, and null ones behind them.
+#[inline(always)]
+fn known_places(inputs: &[Slot]) -> [KeptPlace; 4]
     requires { length inputs.now ≤ 4 }
-    ensures { take (length inputs.now) result ≡ each known_place inputs.now }
+    ensures { take (length inputs.now) (each opened_place result) ≡ each known_place inputs.now }
 {
-    let mut places = [Place::Known(Ref::Null); 4];
+    let mut places = [KeptPlace::Null; 4];
     for (i, slot) in inputs.iter().enumerate() {
         places[i] = known(slot);
     }
     places
 }
 
-// An entry with these inputs, without what they await.
-fn bare<K: Copy>(caller: u32, kind: K, inputs: &[Slot]) -> Entry<K>
+// What is kept of a task with these inputs, without what they await.
+#[inline(always)]
+fn bare<K: Copy>(caller: u32, kind: K, inputs: &[Slot]) -> Kept<K>
     requires { length inputs.now ≤ 4 }
-    ensures bare { IsBare result }
+    ensures bare { IsBare (opened result) }
     ensures caller { result.caller ≡ caller }
     ensures kind { result.kind ≡ kind }
-    ensures inputs { (shown_entry result).inputs ≡ each bare_input inputs.now }
+    ensures inputs { (shown_entry (opened result)).inputs ≡ each bare_input inputs.now }
 {
-    Entry {
-        caller,
-        kind,
-        runner: None,
-        asked: None,
-        count: inputs.len() as u32,
-        places: known_places(inputs),
-        first: None,
-        last: None,
-        before: None,
-        after: None,
-    }
+    Kept::alone(caller, kind, inputs.len() as u32, known_places(inputs))
 }
 
 impl<K: Copy> Parts<K> {

@@ -11,14 +11,14 @@ ghost use Rattle.task_states.specs.States.{no_tasks, status_of, status, task_at,
 ghost use Rattle.task_states.specs.Awaiters.{IsFree, IsNotAwaited, IsLeastAwaiter, IsRunnable};
 ghost use Rattle.task_states.specs.Steps.{added, with_asked, started, given_back, delivered, forwarded, removed, with_stopped, abandoned};
 ghost use Rattle.task_states.specs.declared.states.Awaiter.{Awaiter as AnyAwaiter};
-ghost use Rattle.task_graph.specs.Contents.{inputs_given, AreOf, AreFree, AreOfOneCaller, IsAskedOnce};
+ghost use Rattle.task_graph.specs.Contents.{inputs_given, AreOf, AreFree, AreOfOneCaller, IsAskedOnce, is_ready_at};
 
 use crate::parts::Parts;
 use cht_ids::{Memory, Ref};
 use std::alloc::Global;
 use std::collections::HashMap;
 use task_links::{Callers, Entries, Kept, Queue};
-use task_states::{Slot, TaskStatus};
+use task_states::{Awaiter, Slot, TaskStatus};
 
 // The tasks, the numbers of those that can be run with others among them, and how many tasks can be added without memory.
 #[derive(Drop)]
@@ -114,6 +114,24 @@ impl<K: Copy> Held<K> {
             self.clean();
         } else {
             self.ready.push(task);
+        }
+    }
+
+    // One task more can be run, if one is given.
+    fn enqueue_if(&mut self, task: Option<u128>)
+        requires whole { IsWhole self.old.parts }
+        requires queue { IsQueue self.old.ready }
+        requires queued { (q : ℕ) → IsRunnable (graph_of self.old.parts) q → (task ≡ Some q) ⊎ (is_queued q self.old.ready ≡ true) }
+        requires least { IsLeastRunnable self.old }
+        requires runs { (q : ℕ) → task ≡ Some q → IsRunnable (graph_of self.old.parts) q }
+        requires room { HasRoom self.old }
+        ensures held { IsHeld self.new }
+        ensures parts { self.new.parts ≡ self.old.parts }
+        ensures spare { self.new.spare ≡ self.old.spare }
+    {
+        match task {
+            None => {}
+            Some(task) => self.enqueue(task),
         }
     }
 
@@ -243,10 +261,22 @@ impl<K: Copy> Held<K> {
         ensures graph { (awaiter : AnyAwaiter) → IsLeastAwaiter (graph_of self.old.parts) task awaiter → graph_of self.new.parts ≡ delivered (graph_of self.old.parts) task awaiter r }
         ensures spare { self.new.spare ≡ self.old.spare }
     {
-        match self.parts.deliver(task, r) {
-            None => {}
-            Some(of) => self.enqueue(of),
-        }
+        let of = self.parts.deliver(task, r);
+        self.enqueue_if(of);
+    }
+
+    /// The same for the awaiter that has the least number. Answers whether the task whose input it is, is Ready then.
+    pub fn deliver_to(&mut self, task: u128, awaiter: &Awaiter, r: Ref) -> bool
+        requires held { IsHeld self.old }
+        requires least { IsLeastAwaiter (graph_of self.old.parts) task awaiter.now }
+        ensures held { IsHeld self.new }
+        ensures graph { graph_of self.new.parts ≡ delivered (graph_of self.old.parts) task awaiter.now r }
+        ensures told { result ≡ is_ready_at (graph_of self.new.parts) awaiter.now }
+        ensures spare { self.new.spare ≡ self.old.spare }
+    {
+        let settled = self.parts.deliver_to(task, awaiter, r);
+        self.enqueue_if(settled.0);
+        settled.1
     }
 
     /// All that awaits one task awaits another of the same caller.

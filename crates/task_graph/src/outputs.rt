@@ -5,10 +5,10 @@ ghost use Rattle.task_links.specs.Kept.{opened};
 ghost use Rattle.std.specs.List.{list_any};
 ghost use Rattle.std.specs.Option.{option_map};
 ghost use Rattle.cht_ids.specs.declared.refs.Ref.{Ref as AnyRef};
-ghost use Rattle.task_states.specs.States.{Known as KnownInput, Awaits as AwaitsTask, Unfinished as AnyUnfinished, task_at, is_awaiting};
+ghost use Rattle.task_states.specs.States.{Known as KnownInput, Awaits as AwaitsTask, Unfinished as AnyUnfinished, task_at, status, is_awaiting};
 ghost use Rattle.task_states.specs.Steps.{with_task, delivered, inputs_redirected, forwarded};
 ghost use Rattle.task_links.specs.Weave.{head_at, link_at, IsFirst, IsUntied, IsTied, IsAtHome, IsUnused, IsUnasked, IsFirstIfInput, Head as AnyHead};
-ghost use Rattle.task_graph.specs.Contents.{AreOfOneCaller, IsAskedOnce};
+ghost use Rattle.task_graph.specs.Contents.{AreOfOneCaller, IsAskedOnce, is_ready, is_ready_at};
 ghost use Rattle.task_graph.specs.Moving.{IsMovable, IsMoved};
 ghost use Rattle.task_states.specs.declared.states.Awaiter.{Awaiter as AnyAwaiter};
 ghost use Rattle.task_links.specs.declared.entries.Link.{Link as AnyLink};
@@ -21,6 +21,18 @@ use crate::parts::Parts;
 use cht_ids::Ref;
 use task_links::{Kept, Link, Spot};
 use task_states::Awaiter;
+
+// A place of an input of a task.
+#[inline(always)]
+fn spot_at(task: u128, place: u32) -> Spot
+    requires { place < 256 }
+    ensures { result ≡ record { task = task; place = place } }
+{
+    Spot {
+        task,
+        place: place as u8,
+    }
+}
 
 impl<K: Copy> Parts<K> {
     // The awaiter with the least number of a task of which this is kept; `None` where nobody awaits it.
@@ -76,9 +88,9 @@ impl<K: Copy> Parts<K> {
         }
     }
 
-    // The first input that awaits a task gets a reference. Answers what it awaited, and whether another input of its task awaits
-    // a task.
-    fn settle(&mut self, spot: Spot, r: Ref) -> (Link, bool)
+    // The first input that awaits a task gets a reference. Answers what it awaited, whether another input of its task awaits a
+    // task, and the caller of its task.
+    fn settle(&mut self, spot: Spot, r: Ref) -> (Link, bool, u32)
         requires whole { IsWhole self.old }
         requires first { IsFirst (head_at (entries_at self.old.entries)) (link_at (entries_at self.old.entries)) spot }
         ensures whole { IsWhole self.new }
@@ -86,6 +98,8 @@ impl<K: Copy> Parts<K> {
         ensures untied { IsUntied (head_at (entries_at self.old.entries)) (head_at (entries_at self.new.entries)) (link_at (entries_at self.old.entries)) (link_at (entries_at self.new.entries)) spot result.0 }
         ensures graph { graph_of self.new ≡ with_task (graph_of self.old) spot.task (λ u. record u { inputs = set u.inputs spot.place (KnownInput r) }) }
         ensures waits { option_map (λ unfinished. list_any is_awaiting unfinished.inputs) (task_at (graph_of self.new) spot.task) ≡ Some result.1 }
+        ensures caller { (unfinished : AnyUnfinished AnyRef K) → task_at (graph_of self.old) spot.task ≡ Some unfinished → unfinished.caller ≡ result.2 }
+        ensures low { result.2 < 64 }
         ensures there { IsSome (place_at (entries_at self.new.entries) spot) }
         ensures size { IsSameSize self.old.entries self.new.entries }
     {
@@ -116,7 +130,6 @@ impl<K: Copy> Parts<K> {
         requires there { entries_at self.now.entries task ≡ Some (opened kept.now) }
         ensures input { (awaiter : AnyAwaiter) → IsLeastAwaiter (graph_of self.now) task awaiter → spot_of awaiter ≡ result }
         ensures first { (spot : AnySpot) → result ≡ Some spot → IsFirst (head_at (entries_at self.now.entries)) (link_at (entries_at self.now.entries)) spot }
-        ensures own { (spot : AnySpot) (unfinished : AnyUnfinished AnyRef K) → result ≡ Some spot → task_at (graph_of self.now) spot.task ≡ Some unfinished → unfinished.caller ≡ kept.now.caller }
     {
         match kept.first() {
             None => None,
@@ -134,26 +147,26 @@ impl<K: Copy> Parts<K> {
         }
     }
 
-    // The first input that awaits a task gets a reference. Answers its own task, one of this caller, if it can be run then.
-    fn settle_first(&mut self, spot: Spot, r: Ref, caller: u32) -> Option<u128>
+    // The first input that awaits a task gets a reference. Answers its own task, if that can be run then, and whether it is Ready.
+    fn settle_first(&mut self, spot: Spot, r: Ref) -> (Option<u128>, bool)
         requires whole { IsWhole self.old }
         requires first { IsFirst (head_at (entries_at self.old.entries)) (link_at (entries_at self.old.entries)) spot }
-        requires own { (unfinished : AnyUnfinished AnyRef K) → task_at (graph_of self.old) spot.task ≡ Some unfinished → unfinished.caller ≡ caller }
-        requires low { caller < 64 }
         ensures whole { IsWhole self.new }
         ensures graph { graph_of self.new ≡ with_task (graph_of self.old) spot.task (λ u. record u { inputs = set u.inputs spot.place (KnownInput r) }) }
-        ensures runs { (q : ℕ) → IsRunnable (graph_of self.new) q → (result ≡ Some q) ⊎ IsRunnable (graph_of self.old) q }
-        ensures ready { (q : ℕ) → result ≡ Some q → IsRunnable (graph_of self.new) q }
+        ensures runs { (q : ℕ) → IsRunnable (graph_of self.new) q → (result.0 ≡ Some q) ⊎ IsRunnable (graph_of self.old) q }
+        ensures ready { (q : ℕ) → result.0 ≡ Some q → IsRunnable (graph_of self.new) q }
+        ensures told { result.1 ≡ is_ready (status (graph_of self.new) spot.task) }
         ensures size { IsSameSize self.old.entries self.new.entries }
     {
-        let row = self.callers.get(caller);
         let settled = self.settle(spot, r);
         if settled.1 {
-            None
-        } else if row.stopped {
-            None
+            return (None, false);
+        }
+        let row = self.callers.get(settled.2);
+        if row.stopped {
+            (None, true)
         } else {
-            Some(spot.task)
+            (Some(spot.task), true)
         }
     }
 
@@ -169,13 +182,35 @@ impl<K: Copy> Parts<K> {
         ensures size { IsSameSize self.old.entries self.new.entries }
     {
         let kept = self.entries.look(task);
-        let caller = kept.caller;
         match self.next_input(task, kept) {
             None => {
                 self.unask(task);
                 None
             }
-            Some(spot) => self.settle_first(spot, r, caller),
+            Some(spot) => self.settle_first(spot, r).0,
+        }
+    }
+
+    /// The same for the awaiter that has the least number. Answers also whether the task whose input it is, is Ready then.
+    pub fn deliver_to(&mut self, task: u128, awaiter: &Awaiter, r: Ref) -> (Option<u128>, bool)
+        requires whole { IsWhole self.old }
+        requires least { IsLeastAwaiter (graph_of self.old) task awaiter.now }
+        ensures whole { IsWhole self.new }
+        ensures graph { graph_of self.new ≡ delivered (graph_of self.old) task awaiter.now r }
+        ensures runs { (q : ℕ) → IsRunnable (graph_of self.new) q → (result.0 ≡ Some q) ⊎ IsRunnable (graph_of self.old) q }
+        ensures stays { (q : ℕ) → IsRunnable (graph_of self.old) q → IsRunnable (graph_of self.new) q }
+        ensures ready { (q : ℕ) → result.0 ≡ Some q → IsRunnable (graph_of self.new) q }
+        ensures told { result.1 ≡ is_ready_at (graph_of self.new) awaiter.now }
+        ensures size { IsSameSize self.old.entries self.new.entries }
+    {
+        match awaiter {
+            Awaiter::Input {
+                task: of, place, ..
+            } => self.settle_first(spot_at(*of, *place), r),
+            Awaiter::Asked { .. } => {
+                self.unask(task);
+                (None, false)
+            }
         }
     }
 

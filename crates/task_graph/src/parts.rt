@@ -3,6 +3,7 @@ ghost use Rattle.std.specs.Prelude.{◌≡◌, ◌<◌, ◌≤◌, ◌+◌, ℕ,
 ghost use Rattle.std.specs.Option.{option_map};
 ghost use Rattle.std.specs.HashMap.{hash_map_len};
 ghost use Rattle.task_links.specs.Inside.{entries_at, room_of, station_at, IsSameSize, shown_entry};
+ghost use Rattle.task_links.specs.Kept.{opened};
 ghost use Rattle.task_links.specs.Weave.{IsBeside, Middle, IsInserted, IsWithout, link_at};
 ghost use Rattle.task_links.specs.Callers.{caller_at, bounds_at, load_at};
 ghost use Rattle.task_links.specs.Order.{IsOrdered, IsJustBelow, IsBehind, with_after_at, with_before_at, with_first_at, with_last_at};
@@ -14,7 +15,7 @@ ghost use Rattle.task_states.specs.Steps.{removed, added};
 ghost use Rattle.task_graph.specs.Graphs.{graph_of, IsWhole, IsBare};
 
 use cht_ids::Memory;
-use task_links::{Caller, Callers, Entries, Entry};
+use task_links::{Caller, Callers, Entries, Entry, Kept};
 
 // All tasks, and what is kept for their callers.
 #[derive(Drop)]
@@ -121,29 +122,25 @@ impl<K: Copy> Parts<K> {
     }
 
     /// One more task, among those of its caller.
-    pub fn place(&mut self, task: u128, entry: Entry<K>)
+    pub fn place(&mut self, task: u128, entry: Kept<K>)
         requires caller { entry.caller < 64 }
         requires ordered { IsOrdered (bounds_at (caller_at self.old.callers)) (station_at (entries_at self.old.entries)) }
         requires new { entries_at self.old.entries task ≡ None }
         requires room { 0 < room_of self.old.entries }
         ensures ordered { IsOrdered (bounds_at (caller_at self.new.callers)) (station_at (entries_at self.new.entries)) }
-        ensures beside { (middle : Middle K) × IsInserted (entries_at self.old.entries) middle task entry × IsBeside middle (entries_at self.new.entries) }
+        ensures beside { (middle : Middle K) × IsInserted (entries_at self.old.entries) middle task (opened entry) × IsBeside middle (entries_at self.new.entries) }
         ensures load { (q : ℕ) → load_at (caller_at self.new.callers) q ≡ load_at (caller_at self.old.callers) q }
         ensures rows { length self.new.callers.rows ≡ length self.old.callers.rows }
         ensures len { hash_map_len self.new.entries.tasks ≡ hash_map_len self.old.entries.tasks + 1 }
         ensures room { room_of self.old.entries ≤ room_of self.new.entries + 1 }
     {
-        let gap = self.around(entry.caller, task);
+        let caller = entry.caller;
+        let gap = self.around(caller, task);
         let before = gap.0;
         let after = gap.1;
-        let placed = Entry {
-            before,
-            after,
-            ..entry
-        };
-        self.entries.insert(task, placed);
-        self.lead_on(entry.caller, before, Some(task));
-        self.lead_back(entry.caller, after, Some(task));
+        self.entries.insert(task, entry, before, after);
+        self.lead_on(caller, before, Some(task));
+        self.lead_back(caller, after, Some(task));
     }
 
     /// Takes a task out from those of its caller. Answers what was kept of it.
@@ -184,14 +181,14 @@ impl<K: Copy> Parts<K> {
     }
 
     /// One more task that awaits nothing yet.
-    pub fn place_idle(&mut self, task: u128, entry: Entry<K>)
+    pub fn place_idle(&mut self, task: u128, entry: Kept<K>)
         requires whole { IsWhole self.old }
         requires caller { entry.caller < 64 }
         requires new { entries_at self.old.entries task ≡ None }
-        requires bare { IsBare entry }
+        requires bare { IsBare (opened entry) }
         requires room { 0 < room_of self.old.entries }
         ensures whole { IsWhole self.new }
-        ensures graph { graph_of self.new ≡ added (graph_of self.old) task entry.caller entry.kind (shown_entry entry).inputs }
+        ensures graph { graph_of self.new ≡ added (graph_of self.old) task entry.caller entry.kind (shown_entry (opened entry)).inputs }
         ensures links { (p : AnySpot) (l : AnyLink) → link_at (entries_at self.new.entries) p ≡ Some l → link_at (entries_at self.old.entries) p ≡ Some l }
         ensures len { hash_map_len self.new.entries.tasks ≡ hash_map_len self.old.entries.tasks + 1 }
         ensures room { room_of self.old.entries ≤ room_of self.new.entries + 1 }

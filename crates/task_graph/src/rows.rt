@@ -1,39 +1,27 @@
 // What is known of a task, read at once.
-ghost use Rattle.std.specs.Prelude.{◌≡◌, ◌<◌, ◌≤◌, take, slice_get, map as each, option_map, IfSome};
+ghost use Rattle.std.specs.Prelude.{◌≡◌, ◌<◌, ◌≤◌, take, slice_get, option_map, IfSome};
 ghost use Rattle.task_states.specs.States.{status_of, task_at};
-ghost use Rattle.task_links.specs.Inside.{shown_place, shown_entry};
+ghost use Rattle.task_links.specs.Inside.{shown_entry};
 ghost use Rattle.task_links.specs.Kept.{opened};
-ghost use Rattle.task_graph.specs.Contents.{input_of, inputs_given};
+ghost use Rattle.task_graph.specs.Contents.{input_of};
 ghost use Rattle.task_graph.specs.Rows.{unfinished_in};
 ghost use Rattle.task_graph.specs.Graphs.{graph_of, IsWhole};
 
 use crate::parts::Parts;
-use crate::reading::{any_awaits, slot};
-use task_links::{Kept, Place};
+use crate::reading::slot;
+use task_links::{Kept, KeptPlace, any_awaits};
 use task_states::{Slot, TaskStatus};
 
-/// What is known of an unfinished task. Its inputs are the first `count` of the slots, of which there are at most four.
+/// What is known of an unfinished task. Its inputs are the first `count` of the places, of which there are at most four; each is
+/// opened when it is asked for.
 #[derive(Clone, Copy)]
 pub struct TaskRow<K> {
-    pub caller: u32,
-    pub kind: K,
-    pub runner: Option<u32>,
+    pub places: [KeptPlace; 4],
     pub asked: Option<u128>,
+    pub runner: Option<u32>,
+    pub caller: u32,
     pub count: u32,
-    pub slots: [Slot; 4],
-}
-
-// Inputs as callers give them.
-#[inline(always)]
-fn slots(places: &[Place; 4]) -> [Slot; 4]
-    ensures { each input_of result ≡ each shown_place places.now }
-{
-    [
-        slot(&places[0]),
-        slot(&places[1]),
-        slot(&places[2]),
-        slot(&places[3]),
-    ]
+    pub kind: K,
 }
 
 // What is known of a task of which this is kept.
@@ -42,30 +30,31 @@ fn row_of<K: Copy>(kept: &Kept<K>) -> TaskRow<K>
     ensures row { unfinished_in result ≡ shown_entry (opened kept.now) }
     ensures count { result.count ≡ kept.now.count }
 {
-    let places = kept.open_places();
     TaskRow {
-        caller: kept.caller,
-        kind: kept.kind,
-        runner: kept.runner,
+        places: kept.places,
         asked: kept.asked(),
+        runner: kept.runner,
+        caller: kept.caller,
         count: kept.count,
-        slots: slots(&places),
+        kind: kept.kind,
     }
 }
 
 impl<K: Copy> TaskRow<K> {
-    // The inputs of the task.
-    fn given(&self) -> &[Slot]
-        ensures { result.now ≡ take self.now.count self.now.slots }
+    // The inputs of the task, as they are kept.
+    #[inline(always)]
+    fn given(&self) -> &[KeptPlace]
+        ensures { result.now ≡ take self.now.count self.now.places }
     {
         if self.count < 4 {
-            &self.slots[..self.count as usize]
+            &self.places[..self.count as usize]
         } else {
-            &self.slots
+            &self.places
         }
     }
 
     /// How far the task is.
+    #[inline]
     pub fn status(&self) -> TaskStatus
         ensures { result ≡ status_of (unfinished_in self.now) }
     {
@@ -79,12 +68,14 @@ impl<K: Copy> TaskRow<K> {
     }
 
     /// The input at a place, counted from 0; `None` exactly where the task has no such input.
+    #[inline]
     pub fn input(&self, place: u32) -> Option<Slot>
         ensures input { option_map input_of result ≡ slice_get (unfinished_in self.now).inputs place }
         ensures few { IfSome result (λ _. place < 4) }
     {
         if place < 4 && place < self.count {
-            Some(self.slots[place as usize])
+            let kept = self.places[place as usize];
+            Some(slot(&kept.open()))
         } else {
             None
         }

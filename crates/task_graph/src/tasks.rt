@@ -6,7 +6,7 @@ ghost use Rattle.task_states.specs.States.{no_tasks, task_at, status, caller_of,
 ghost use Rattle.task_states.specs.Awaiters.{IsFree, IsNotAwaited, IsAwaiterFound, IsLeastAwaiter, IsLeastOf, IsRunnable, IsLater, IsWanted};
 ghost use Rattle.task_states.specs.Listing.{awaiters};
 ghost use Rattle.task_states.specs.Steps.{added, with_asked, started, given_back, delivered, forwarded, removed, with_stopped, abandoned};
-ghost use Rattle.task_graph.specs.Contents.{inputs_given, input_of, AreOf, AreFree, AreOfOneCaller, IsAskedOnce};
+ghost use Rattle.task_graph.specs.Contents.{inputs_given, input_of, AreOf, AreFree, AreOfOneCaller, IsAskedOnce, is_ready_at};
 ghost use Rattle.task_graph.specs.Rows.{unfinished_in};
 
 use crate::held::Held;
@@ -143,6 +143,17 @@ impl<K: Copy> Tasks<K> {
         ensures spare { self.new.spare ≡ self.old.spare }
     {
         self.held.deliver(task, r);
+    }
+
+    /// The same for an awaiter that is known to be the one with the least number, as `awaiter` answers it. Answers whether the
+    /// task whose input it is, is Ready then; where a caller asked, it is false.
+    pub fn deliver_to(&mut self, task: TaskNo, awaiter: &Awaiter, r: Ref) -> bool
+        requires { IsLeastAwaiter self.old.graph task awaiter.now }
+        ensures graph { self.new.graph ≡ delivered self.old.graph task awaiter.now r }
+        ensures ready { result ≡ is_ready_at self.new.graph awaiter.now }
+        ensures spare { self.new.spare ≡ self.old.spare }
+    {
+        self.held.deliver_to(task, awaiter, r)
     }
 
     /// All that awaits the first task awaits the second, another one of the same caller. At most one of them is asked for.

@@ -10,7 +10,7 @@ use Rattle.task_links.specs.declared.kept.KeptEnds.{KeptEnds}
 use Rattle.task_links.specs.declared.kept.KeptEnds.TheVariants.{Neither, First, Last, Both}
 use Rattle.task_links.specs.declared.kept.KeptPlace.{KeptPlace}
 use Rattle.task_links.specs.declared.kept.KeptPlace.TheVariants.{Null, Refers, Last as LastLink, Linked}
-use Rattle.task_links.specs.declared.kept.Quarters.{Quarters}
+use Rattle.task_links.specs.declared.quarters.Quarters.{Quarters}
 
 -- the number of four quarters
 abbrev pub joined : Quarters → ℕ

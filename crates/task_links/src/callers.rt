@@ -33,6 +33,7 @@ impl Callers {
     }
 
     /// What is kept for a caller.
+    #[inline]
     pub fn get(&self, caller: u32) -> Caller
         requires { caller < 64 }
         ensures { caller_at self.now caller ≡ Some result }
@@ -41,6 +42,7 @@ impl Callers {
     }
 
     /// Writes what is kept for a caller.
+    #[inline]
     pub fn set(&mut self, caller: u32, row: Caller)
         requires { caller < 64 }
         ensures at { (q : ℕ) → caller_at self.new q ≡ cond (nat_eq q caller) (Some row) (caller_at self.old q) }

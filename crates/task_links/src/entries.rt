@@ -11,7 +11,8 @@ ghost use Rattle.task_links.specs.Kept.{opened, opened_place, joined_if};
 ghost use Rattle.task_links.specs.Weave.{head_at, link_at, with_next, with_joined, with_passed, with_joined_at, with_passed_at, IsBeside, count_of};
 ghost use Rattle.task_links.specs.Order.{with_after_at, with_before_at};
 
-use crate::kept::{Kept, KeptPlace, Quarters, kept_place, link_in, split_if};
+use crate::kept::{Kept, KeptPlace, kept_place, link_in};
+use crate::quarters::{Quarters, split_if};
 use cht_ids::Ref;
 use std::collections::HashMap;
 
@@ -91,18 +92,20 @@ impl<K: Copy> Entries<K> {
         kept.swap_place(spot.place, place)
     }
 
-    // Writes the input at a place. Answers the one that was there, and whether the task awaits another then.
+    // Writes the input at a place. Answers the one that was there, whether the task awaits another then, and the task's caller.
     #[inline(always)]
-    fn swap_watched(&mut self, spot: Spot, place: KeptPlace) -> (KeptPlace, bool)
+    fn swap_watched(&mut self, spot: Spot, place: KeptPlace) -> (KeptPlace, bool, u32)
         requires there { IsSome (place_at (entries_at self.old) spot) }
         requires short { (entry : AnyEntry K) → entries_at self.old spot.task ≡ Some entry → entry.count ≤ 4 }
         ensures was { place_at (entries_at self.old) spot ≡ Some (opened_place result.0) }
         ensures at { (q : ℕ) → entries_at self.new q ≡ option_map (with_place_at q spot (opened_place place)) (entries_at self.old q) }
         ensures waits { option_map (λ entry. list_any is_awaiting (shown_entry entry).inputs) (entries_at self.new spot.task) ≡ Some result.1 }
+        ensures caller { option_map caller_in (entries_at self.old spot.task) ≡ Some result.2 }
         ensures size { IsSameSize self.old self.new }
     {
         let kept = self.tasks.get_mut(&spot.task).unwrap();
-        kept.swap_watched(spot.place, place)
+        let was = kept.swap_watched(spot.place, place);
+        (was.0, was.1, kept.caller)
     }
 
     // Writes the ends of a task's list that an input joined between two others.
@@ -163,10 +166,10 @@ impl<K: Copy> Entries<K> {
         link_in(was)
     }
 
-    /// Writes the input at a place. Answers the link of the one that was there, if it awaited a task, and whether the task awaits
-    /// another then.
+    /// Writes the input at a place. Answers the link of the one that was there, if it awaited a task, whether the task awaits
+    /// another then, and the task's caller.
     #[inline(always)]
-    pub fn set_watched(&mut self, spot: Spot, place: Place) -> (Option<Link>, bool)
+    pub fn set_watched(&mut self, spot: Spot, place: Place) -> (Option<Link>, bool, u32)
         requires there { IsSome (place_at (entries_at self.old) spot) }
         requires short { (entry : AnyEntry K) → entries_at self.old spot.task ≡ Some entry → entry.count ≤ 4 }
         ensures link { result.0 ≡ link_at (entries_at self.old) spot }
@@ -174,12 +177,13 @@ impl<K: Copy> Entries<K> {
         ensures heads { (q : ℕ) → head_at (entries_at self.new) q ≡ head_at (entries_at self.old) q }
         ensures shown { (q : ℕ) → shown_at (entries_at self.new) q ≡ option_map (with_input q spot (shown_place place)) (shown_at (entries_at self.old) q) }
         ensures waits { option_map (λ entry. list_any is_awaiting (shown_entry entry).inputs) (entries_at self.new spot.task) ≡ Some result.1 }
+        ensures caller { option_map caller_in (entries_at self.old spot.task) ≡ Some result.2 }
         ensures stations { (q : ℕ) → station_at (entries_at self.new) q ≡ station_at (entries_at self.old) q }
         ensures counts { (q : ℕ) → option_map count_of (entries_at self.new q) ≡ option_map count_of (entries_at self.old q) }
         ensures size { IsSameSize self.old self.new }
     {
         let was = self.swap_watched(spot, kept_place(place));
-        (link_in(was.0), was.1)
+        (link_in(was.0), was.1, was.2)
     }
 
     /// Writes the next one of an awaiting input.
@@ -314,15 +318,17 @@ impl<K: Copy> Entries<K> {
         self.write_asked(task, asked, is_asked);
     }
 
-    /// One more task, for which there is room.
-    pub fn insert(&mut self, task: u128, entry: Entry<K>)
+    /// One more task, for which there is room, between two others of its caller.
+    #[inline(always)]
+    pub fn insert(&mut self, task: u128, kept: Kept<K>, before: Option<u128>, after: Option<u128>)
         requires new { entries_at self.old task ≡ None }
         requires room { 0 < room_of self.old }
-        ensures at { (q : ℕ) → entries_at self.new q ≡ put_in task entry (entries_at self.old) q }
+        ensures at { (q : ℕ) → entries_at self.new q ≡ put_in task (record (opened kept) { before = before; after = after }) (entries_at self.old) q }
         ensures len { hash_map_len self.new.tasks ≡ hash_map_len self.old.tasks + 1 }
         ensures room { room_of self.old ≤ room_of self.new + 1 }
     {
-        let reserved: Result<_, _> = self.tasks.insert(task, Kept::of(&entry));
+        let placed = kept.between(before, after);
+        let reserved: Result<_, _> = self.tasks.insert(task, placed);
         reserved.unwrap();
     }
 

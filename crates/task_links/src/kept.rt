@@ -1,7 +1,6 @@
-// Entries of tasks as they are kept: numbers in quarters, so that nothing is aligned to more than 4 bytes, and few bytes for what
-// may be missing.
-ghost use Rattle.std.specs.Prelude.{◌≡◌, ◌<◌, ◌≤◌, ◌+◌, ◌*◌, ◌^◌, map as each, set, slice_get, Some, IsSome, IfSome};
-ghost use Rattle.task_links.specs.declared.entries.Place.TheVariants.{Awaits};
+// Entries of tasks as they are kept: numbers in quarters, and few bytes for what may be missing.
+ghost use Rattle.std.specs.Prelude.{◌≡◌, ◌<◌, ◌≤◌, ◌+◌, ◌*◌, ◌^◌, map as each, set, slice_get, None, Some, IsSome, IfSome};
+ghost use Rattle.task_links.specs.declared.entries.Place.TheVariants.{Known, Awaits};
 ghost use Rattle.std.specs.List.{list_any};
 ghost use Rattle.task_states.specs.States.{is_awaiting, status_of};
 ghost use Rattle.task_links.specs.Inside.{shown_place, shown_entry, inputs_of};
@@ -9,17 +8,9 @@ ghost use Rattle.task_links.specs.Weave.{link_of, instead, last_behind};
 ghost use Rattle.task_links.specs.Kept.{joined, joined_if, opened_place, first_in, last_in, opened};
 
 use crate::entries::{Entry, Link, Place, Spot};
+use crate::quarters::{Quarters, split, split_if, whole, whole_if};
 use cht_ids::{Id, Ref};
 use task_states::TaskStatus;
-
-/// A number of 128 bits in quarters: 2^32, 2^64 and 2^96 times the others, and the low one.
-#[derive(Clone, Copy)]
-pub struct Quarters {
-    pub low: u32,
-    pub second: u32,
-    pub third: u32,
-    pub high: u32,
-}
 
 /// An input: null; the owner and the number of a reference; the awaited task and the input's own number, without a next
 /// input; or the place of the next input, the awaited task, the input's own number, and the task of the next input.
@@ -60,68 +51,6 @@ pub struct Kept<K> {
 const _: () = prove!(size_of::<KeptPlace>() == 52);
 
 const _: () = prove!(size_of::<KeptEnds>() == 36);
-
-const QUARTER: u64 = 0x1_0000_0000;
-
-const HALF: u128 = 0x1_0000_0000_0000_0000;
-
-// Two quarters as one number.
-#[inline(always)]
-fn half(low: u32, high: u32) -> u64
-    ensures { result ≡ high * 2 ^ 32 + low }
-{
-    high as u64 * QUARTER + low as u64
-}
-
-// The quarters of two numbers of 64 bits.
-#[inline(always)]
-fn joint(low: u64, high: u64) -> Quarters
-    ensures { joined result ≡ high * 2 ^ 64 + low }
-{
-    Quarters {
-        low: (low % QUARTER) as u32,
-        second: (low / QUARTER) as u32,
-        third: (high % QUARTER) as u32,
-        high: (high / QUARTER) as u32,
-    }
-}
-
-// A number in quarters.
-#[inline(always)]
-fn split(number: u128) -> Quarters
-    ensures { joined result ≡ number }
-{
-    joint((number % HALF) as u64, (number / HALF) as u64)
-}
-
-// The number of four quarters.
-#[inline(always)]
-fn whole(number: Quarters) -> u128
-    ensures { result ≡ joined number }
-{
-    let low = half(number.low, number.second);
-    let high = half(number.third, number.high);
-    high as u128 * HALF + low as u128
-}
-
-// A number that may be missing, in quarters, and whether it is there.
-#[inline(always)]
-pub(crate) fn split_if(number: Option<u128>) -> (Quarters, bool)
-    ensures { joined_if result.0 result.1 ≡ number }
-{
-    match number {
-        None => (joint(0, 0), false),
-        Some(number) => (split(number), true),
-    }
-}
-
-// The number of four quarters, if it is there.
-#[inline(always)]
-fn whole_if(number: Quarters, there: bool) -> Option<u128>
-    ensures { result ≡ joined_if number there }
-{
-    if there { Some(whole(number)) } else { None }
-}
 
 // An awaiting input as it is kept.
 #[inline(always)]
@@ -274,19 +203,6 @@ fn last(ends: KeptEnds) -> Option<Spot>
     }
 }
 
-// Inputs as they are kept.
-#[inline(always)]
-fn kept_places(places: &[Place; 4]) -> [KeptPlace; 4]
-    ensures { each opened_place result ≡ places.now }
-{
-    [
-        kept_place(places[0]),
-        kept_place(places[1]),
-        kept_place(places[2]),
-        kept_place(places[3]),
-    ]
-}
-
 // Inputs that are kept.
 #[inline(always)]
 fn places(kept: &[KeptPlace; 4]) -> [Place; 4]
@@ -301,6 +217,22 @@ fn places(kept: &[KeptPlace; 4]) -> [Place; 4]
 }
 
 impl KeptPlace {
+    /// What is kept of an input that is there.
+    #[inline(always)]
+    pub fn known(r: Ref) -> KeptPlace
+        ensures { opened_place result ≡ Known r }
+    {
+        kept_place(Place::Known(r))
+    }
+
+    /// The input.
+    #[inline(always)]
+    pub fn open(self) -> Place
+        ensures { result ≡ opened_place self }
+    {
+        place(self)
+    }
+
     // Whether the input awaits a task.
     #[inline(always)]
     fn is_awaiting(&self) -> bool
@@ -315,8 +247,9 @@ impl KeptPlace {
     }
 }
 
-// Whether one of these inputs awaits a task.
-fn any_awaits(places: &[KeptPlace]) -> bool
+/// Whether one of these inputs awaits a task.
+#[inline]
+pub fn any_awaits(places: &[KeptPlace]) -> bool
     ensures { result ≡ list_any (λ place. is_awaiting (shown_place (opened_place place))) places.now }
 {
     places.iter().any(|place| place.is_awaiting())
@@ -401,14 +334,6 @@ impl<K: Copy> Kept<K> {
         }
     }
 
-    /// The inputs at all four places, of which the first `count` are the task's.
-    #[inline(always)]
-    pub fn open_places(&self) -> [Place; 4]
-        ensures { result ≡ (opened self.now).places }
-    {
-        places(&self.places)
-    }
-
     // The input at a place, as it is kept.
     #[inline(always)]
     pub(crate) fn place(&self, place: u8) -> KeptPlace
@@ -472,27 +397,41 @@ impl<K: Copy> Kept<K> {
         self.ends = kept_ends(next, last);
     }
 
-    /// An entry as it is kept.
+    /// A task with these inputs, which nobody awaits and no worker runs. It stands beside no other.
     #[inline(always)]
-    pub fn of(entry: &Entry<K>) -> Kept<K>
-        ensures { opened result ≡ entry.now }
+    pub fn alone(caller: u32, kind: K, count: u32, places: [KeptPlace; 4]) -> Kept<K>
+        ensures { opened result ≡ record { caller = caller; kind = kind; runner = None; asked = None; count = count; places = each opened_place places; first = None; last = None; before = None; after = None } }
     {
-        let (asked, is_asked) = split_if(entry.asked);
-        let (before, has_before) = split_if(entry.before);
-        let (after, has_after) = split_if(entry.after);
+        let none = split(0);
         Kept {
-            places: kept_places(&entry.places),
-            ends: kept_ends(entry.first, entry.last),
-            asked,
+            places,
+            ends: KeptEnds::Neither,
+            asked: none,
+            before: none,
+            after: none,
+            runner: None,
+            caller,
+            count,
+            is_asked: false,
+            has_before: false,
+            has_after: false,
+            kind,
+        }
+    }
+
+    /// The same task between two others of its caller.
+    #[inline(always)]
+    pub fn between(self, before: Option<u128>, after: Option<u128>) -> Kept<K>
+        ensures { opened result ≡ record (opened self) { before = before; after = after } }
+    {
+        let (before, has_before) = split_if(before);
+        let (after, has_after) = split_if(after);
+        Kept {
             before,
             after,
-            runner: entry.runner,
-            caller: entry.caller,
-            count: entry.count,
-            is_asked,
             has_before,
             has_after,
-            kind: entry.kind,
+            ..self
         }
     }
 

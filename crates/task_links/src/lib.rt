@@ -5,10 +5,12 @@
 mod callers;
 mod entries;
 mod kept;
+mod quarters;
 mod queue;
 mod weave;
 
 pub use callers::{Caller, Callers};
 pub use entries::{Entries, Entry, Link, Place, Spot};
-pub use kept::{Kept, KeptEnds, KeptPlace, Quarters};
+pub use kept::{Kept, KeptEnds, KeptPlace, any_awaits};
+pub use quarters::Quarters;
 pub use queue::Queue;

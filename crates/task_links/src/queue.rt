@@ -7,6 +7,7 @@ use std::alloc::Global;
 use std::cmp::Reverse;
 use std::collections::BinaryHeap;
 
+/// Numbers, from which the least is taken out. One that is no longer wanted stays until it is the least.
 #[derive(Drop)]
 pub struct Queue {
     pub heap: BinaryHeap<Reverse<u128>>,
@@ -25,6 +26,7 @@ impl Queue {
     }
 
     /// The least number, if there is one.
+    #[inline]
     pub fn least(&self) -> Option<u128>
         requires { IsQueue self.now }
         ensures { IsQueueLeast self.now result }
@@ -48,6 +50,7 @@ impl Queue {
     }
 
     /// One more number, for which there is room.
+    #[inline]
     pub fn push(&mut self, number: u128)
         requires queue { IsQueue self.old }
         requires room { queue_len self.old < queue_capacity self.old }
@@ -61,6 +64,7 @@ impl Queue {
     }
 
     /// Whether there is no room for one more number.
+    #[inline]
     pub fn is_full(&self) -> bool
         ensures { IsTrue result ↔ (queue_capacity self.now ≤ queue_len self.now) }
     {

@@ -6,7 +6,7 @@ ghost use Rattle.task_states.specs.States.{Known as KnownInput, Awaits as Awaits
 ghost use Rattle.task_links.specs.declared.entries.Entry.{Entry as AnyEntry};
 ghost use Rattle.task_links.specs.declared.entries.Spot.{Spot as AnySpot};
 ghost use Rattle.task_links.specs.declared.entries.Place.TheVariants.{Awaits as AwaitsPlace};
-ghost use Rattle.task_links.specs.Inside.{entries_at, IsSameSize, shown_place, place_at, with_input, shown_at, station_at};
+ghost use Rattle.task_links.specs.Inside.{entries_at, IsSameSize, shown_place, place_at, with_input, shown_at, station_at, caller_in};
 ghost use Rattle.task_links.specs.Weave.{head_at, link_at, with_next_at, IsGap, IsTied, IsUntied, IsWoven, IsUnused, IsBelow, IsUnasked, IsAtHome, IsFirst, count_of};
 
 use crate::entries::{Entries, Link, Place, Spot};
@@ -103,14 +103,15 @@ impl<K: Copy> Entries<K> {
         self.tie(spot, Link { task, number, next }, before);
     }
 
-    /// The first input that awaits a task gets a reference, and awaits no more. Answers what it awaited, and whether another
-    /// input of its task awaits a task.
-    pub fn settle(&mut self, spot: Spot, r: Ref) -> (Link, bool)
+    /// The first input that awaits a task gets a reference, and awaits no more. Answers what it awaited, whether another input of
+    /// its task awaits a task, and the caller of its task.
+    pub fn settle(&mut self, spot: Spot, r: Ref) -> (Link, bool, u32)
         requires woven { IsWoven (head_at (entries_at self.old)) (link_at (entries_at self.old)) }
         requires first { IsFirst (head_at (entries_at self.old)) (link_at (entries_at self.old)) spot }
         requires short { (entry : AnyEntry K) → entries_at self.old spot.task ≡ Some entry → entry.count ≤ 4 }
         ensures link { link_at (entries_at self.old) spot ≡ Some result.0 }
         ensures waits { option_map (λ unfinished. list_any is_awaiting unfinished.inputs) (shown_at (entries_at self.new) spot.task) ≡ Some result.1 }
+        ensures caller { option_map caller_in (entries_at self.old spot.task) ≡ Some result.2 }
         ensures woven { IsWoven (head_at (entries_at self.new)) (link_at (entries_at self.new)) }
         ensures untied { IsUntied (head_at (entries_at self.old)) (head_at (entries_at self.new)) (link_at (entries_at self.old)) (link_at (entries_at self.new)) spot result.0 }
         ensures shown { (q : ℕ) → shown_at (entries_at self.new) q ≡ option_map (with_input q spot (KnownInput r)) (shown_at (entries_at self.old) q) }
@@ -122,6 +123,6 @@ impl<K: Copy> Entries<K> {
         let was = self.set_watched(spot, Place::Known(r));
         let link = was.0.unwrap();
         self.pass_first(link.task, link.next);
-        (link, was.1)
+        (link, was.1, was.2)
     }
 }

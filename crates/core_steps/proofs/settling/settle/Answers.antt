@@ -1,7 +1,7 @@
 use Rattle.std.proofs.Common.{◌∙◌, refl, subst, arith}
 use Rattle.task_states.specs.Awaiters.{IsAwaiterFound}
 use Rattle.task_states.specs.Steps.{delivered}
-use Rattle.core_steps.proofs.Delivering.{one_less, settling_step, names_settled, graph_settled, asked_settled}
+use Rattle.core_steps.proofs.Delivering.{one_less, listed_ready, settling_step, names_settled, graph_settled, asked_settled}
 use Rattle.core_steps.proofs.settling.settle.Goals as goal
 
 pub copy_for-copy-requires-clause-room : goal.copy_for-copy-requires-clause-room
@@ -19,24 +19,25 @@ list_if_ready-requires g c =
 pub loop-awaiter-smaller : goal.loop-awaiter-smaller
 loop-awaiter-smaller g c =
     let one =
-    one_less c.loop-awaiter.graph.graph c.deliver.new.self.graph c.args.task c.in-Some.awaiter c.copy_for-copy.result c.in-Some.ensures.awaits
-    (c.deliver.ensures.graph c.in-Some.awaiter c.in-Some.ensures) in
+    one_less c.loop-awaiter.graph.graph c.deliver_to-is_ready.new.self.graph c.args.task c.in-Some.awaiter c.copy_for-copy.result c.in-Some.ensures.awaits
+    c.deliver_to-is_ready.ensures.graph in
     omega arith
 
 pub loop-awaiter-preserved : goal.loop-awaiter-preserved
 loop-awaiter-preserved g c =
-    let delivers = c.deliver.ensures.graph c.in-Some.awaiter c.in-Some.ensures in
-    let one = one_less c.loop-awaiter.graph.graph c.deliver.new.self.graph c.args.task c.in-Some.awaiter c.copy_for-copy.result c.in-Some.ensures.awaits delivers in
+    let delivers = c.deliver_to-is_ready.ensures.graph in
+    let one = one_less c.loop-awaiter.graph.graph c.deliver_to-is_ready.new.self.graph c.args.task c.in-Some.awaiter c.copy_for-copy.result c.in-Some.ensures.awaits delivers in
     record {
       settling = settling_step c.args.names.now.names c.args.graph.now.graph c.args.ready.now.items c.args.task c.args.r
-          c.loop-awaiter.names.names c.copy_for-copy.new.names.names c.loop-awaiter.graph.graph c.deliver.new.self.graph
+          c.loop-awaiter.names.names c.copy_for-copy.new.names.names c.loop-awaiter.graph.graph c.deliver_to-is_ready.new.self.graph
           c.loop-awaiter.ready.items c.list_if_ready.new.ready.items c.loop-awaiter.asked c.asked_or-asked.result c.in-Some.awaiter c.copy_for-copy.result
-          c.loop-awaiter.invariant.settling c.in-Some.ensures.awaits c.copy_for-copy.ensures.result c.copy_for-copy.ensures.names delivers c.list_if_ready.ensures.ready c.asked_or-asked.ensures;
+          c.loop-awaiter.invariant.settling c.in-Some.ensures.awaits c.copy_for-copy.ensures.result c.copy_for-copy.ensures.names delivers
+          (c.list_if_ready.ensures.ready ∙ listed_ready c.deliver_to-is_ready.new.self.graph c.in-Some.awaiter c.loop-awaiter.ready.items c.deliver_to-is_ready.result c.deliver_to-is_ready.ensures.ready) c.asked_or-asked.ensures;
       enough = let was = c.loop-awaiter.invariant.enough in let room = c.copy_for-copy.ensures.room in omega arith;
       fits = let was = c.loop-awaiter.invariant.fits in let len = c.list_if_ready.ensures.len in let same = c.list_if_ready.ensures.capacity in omega arith;
       room = let was = c.loop-awaiter.invariant.room in let room = c.copy_for-copy.ensures.room in omega arith;
       stores = c.copy_for-copy.ensures.stores ∙ c.loop-awaiter.invariant.stores;
-      spare = c.deliver.ensures.spare ∙ c.loop-awaiter.invariant.spare;
+      spare = c.deliver_to-is_ready.ensures.spare ∙ c.loop-awaiter.invariant.spare;
       len = let was = c.loop-awaiter.invariant.len in let len = c.list_if_ready.ensures.len in omega arith;
       capacity = c.list_if_ready.ensures.capacity ∙ c.loop-awaiter.invariant.capacity;
     }

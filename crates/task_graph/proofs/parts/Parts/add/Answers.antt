@@ -5,6 +5,7 @@ use Rattle.task_states.specs.declared.states.Slot.TheVariants.{Known}
 use Rattle.task_graph.specs.declared.parts.Parts.{Parts}
 use Rattle.task_states.specs.Steps.{added}
 use Rattle.task_links.specs.Inside.{room_of, shown_entry}
+use Rattle.task_links.specs.Kept.{opened}
 use Rattle.task_graph.specs.Adding.{IsAdding, mixed}
 use Rattle.task_graph.specs.Graphs.{graph_of}
 use Rattle.task_graph.proofs.Additions.{adding_none, adding_known, adding_more, spot_there, spot_free, spot_home, spot_unused, spot_unasked, of_at, free_at, earlier_at, mixed_all, get_at, slot_cases, none_entry}
@@ -18,8 +19,8 @@ pub loop-place-init : goal.loop-place-init
 loop-place-init g c = (
   adding_none c.args.self.now c.place_idle.new.self c.args.task c.args.caller c.args.kind c.args.inputs.now c.place_idle.ensures.whole
       (c.place_idle.ensures.graph
-      ∙ ap (λ caller. added (graph_of c.args.self.now) c.args.task caller c.bare.result.kind (shown_entry c.bare.result).inputs) c.bare.ensures.caller
-      ∙ ap (λ kind. added (graph_of c.args.self.now) c.args.task c.args.caller kind (shown_entry c.bare.result).inputs) c.bare.ensures.kind
+      ∙ ap (λ caller. added (graph_of c.args.self.now) c.args.task caller c.bare.result.kind (shown_entry (opened c.bare.result)).inputs) c.bare.ensures.caller
+      ∙ ap (λ kind. added (graph_of c.args.self.now) c.args.task c.args.caller kind (shown_entry (opened c.bare.result)).inputs) c.bare.ensures.kind
       ∙ ap (λ inputs. added (graph_of c.args.self.now) c.args.task c.args.caller c.args.kind inputs) c.bare.ensures.inputs)
       c.place_idle.ensures.links,
   c.place_idle.ensures.len,

@@ -1,19 +1,14 @@
 use Rattle.std.proofs.Common.{None, sym, subst, refl, inr, ◌∙◌}
 use Rattle.task_states.specs.Awaiters.{IsRunnable}
 use Rattle.task_states.proofs.Runnables.{runs_same}
-use Rattle.task_links.specs.Kept.{opened}
 use Rattle.task_graph.specs.Graphs.{graph_of}
 use Rattle.task_graph.proofs.FirstInputs.{delivered_at, delivered_asked}
 use Rattle.task_graph.proofs.Marking.{entry_of}
-use Rattle.task_graph.proofs.Runs.{caller_low}
 use Rattle.task_graph.proofs.Staying.{stays_known, stays_unasked}
 use Rattle.task_graph.proofs.parts.Parts.deliver.Goals as goal
 
 pub look-kept-requires : goal.look-kept-requires
 look-kept-requires g c = entry_of c.args.self.now c.args.task c.requires.there
-
-pub settle_first-requires-clause-low : goal.settle_first-requires-clause-low
-settle_first-requires-clause-low g c = caller_low c.args.self.now c.requires.whole c.args.task (opened c.look-kept.result.now) c.look-kept.ensures
 
 pub returns-in-None-clause-graph : goal.returns-in-None-clause-graph
 returns-in-None-clause-graph g c = λ awaiter least. c.unask.ensures.graph ∙ delivered_asked (graph_of c.args.self.now) c.args.task c.args.r awaiter (c.in-None.ensures.input awaiter least)

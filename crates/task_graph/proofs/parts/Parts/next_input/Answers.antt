@@ -6,7 +6,7 @@ use Rattle.task_links.specs.Kept.{opened}
 use Rattle.task_links.specs.Weave.{link_at}
 use Rattle.task_links.proofs.Walking.{some_is}
 use Rattle.task_graph.proofs.Awaiting.{asked_first, input_first, first_link}
-use Rattle.task_graph.proofs.FirstInputs.{no_spot, spot_is, spot_alone, first_is, own_is}
+use Rattle.task_graph.proofs.FirstInputs.{no_spot, spot_is, spot_alone, first_is}
 use Rattle.task_graph.proofs.parts.Parts.next_input.Goals as goal
 
 pub link-link-requires : goal.link-link-requires
@@ -38,11 +38,3 @@ returns-in-None-asked-clause-first g c =
 pub returns-else-number-link-clause-first : goal.returns-else-number-link-clause-first
 returns-else-number-link-clause-first g c =
     λ spot same. first_is c.args.self.now c.args.task (opened c.args.kept.now) c.requires.whole c.requires.there c.in-Some.spot spot (sym c.in-Some.ensures) same
-
-pub returns-in-None-asked-clause-own : goal.returns-in-None-asked-clause-own
-returns-in-None-asked-clause-own g c =
-    λ spot unfinished same there. own_is c.args.self.now c.args.task (opened c.args.kept.now) c.requires.whole c.requires.there c.in-Some.spot spot unfinished (sym c.in-Some.ensures) same there
-
-pub returns-else-number-link-clause-own : goal.returns-else-number-link-clause-own
-returns-else-number-link-clause-own g c =
-    λ spot unfinished same there. own_is c.args.self.now c.args.task (opened c.args.kept.now) c.requires.whole c.requires.there c.in-Some.spot spot unfinished (sym c.in-Some.ensures) same there

@@ -1,17 +1,29 @@
-use Rattle.std.proofs.Common.{◌≡◌, ℕ, ap, ◌∙◌, Some, None}
+use Rattle.std.proofs.Common.{◌≡◌, ℕ, ap, sym, ◌∙◌, Some, None}
 use Rattle.std.specs.Option.{option_map}
 use Rattle.task_states.proofs.Maps.{test_same}
 use Rattle.task_states.proofs.Options.{not_none}
 use Rattle.task_links.specs.Inside.{entries_at, station_at, station_of}
 use Rattle.task_links.specs.Callers.{caller_at, bounds_at}
-use Rattle.task_links.specs.Order.{IsRoom, with_before_at, with_last_at}
-use Rattle.task_links.proofs.Besides.{besides, other_put, here_put}
+use Rattle.task_links.specs.Order.{IsRoom, with_after_at, with_before_at, with_last_at}
+use Rattle.task_links.proofs.Besides.{besides, other_put, here_put, entry_behind}
 use Rattle.task_links.proofs.Orders.{placed-ordered}
 use Rattle.task_links.proofs.Splicing.{spliced, here_as, room_made, home_made, before_apart, after_there}
 use Rattle.task_graph.proofs.parts.Parts.place.Goals as goal
 
 room : (g : _) (c : goal.After-lead_back g) → IsRoom (bounds_at (caller_at c.args.self.now.callers)) (station_at (entries_at c.args.self.now.entries)) c.args.entry.caller c.args.task c.around-gap.result.0 c.around-gap.result.1
 room g c = room_made _ _ _ _ c.requires.ordered c.around-gap.result.0 c.around-gap.result.1 c.around-gap.ensures.below c.around-gap.ensures.behind
+
+pub lead_back-requires-clause-there : goal.lead_back-requires-clause-there
+lead_back-requires-clause-there g c = λ q is.
+    let old = station_at (entries_at c.args.self.now.entries) in
+    let bounds = bounds_at (caller_at c.args.self.now.callers) in
+    let free = room_made _ _ _ _ c.requires.ordered c.around-gap.result.0 c.around-gap.result.1 c.around-gap.ensures.below c.around-gap.ensures.behind in
+    let t = after_there bounds old c.args.entry.caller c.args.task c.requires.ordered c.around-gap.result.0 c.around-gap.result.1 free q is in
+    let fresh : old c.args.task ≡ None = ap (option_map station_of) c.requires.new in
+    let kept : station_at (entries_at c.insert.new.self) q ≡ Some t.0 =
+        ap (option_map station_of) (other_put (entries_at c.args.self.now.entries) (entries_at c.insert.new.self) c.args.task _ c.insert.ensures.at q (λ same. not_none (old c.args.task) t.0 fresh (ap old (sym same) ∙ t.1))) ∙ t.1 in
+    entry_behind (entries_at c.lead_on.new.self.entries) q (with_after_at q c.around-gap.result.0 (Some c.args.task) t.0)
+    (c.lead_on.ensures.stations q ∙ ap (option_map (with_after_at q c.around-gap.result.0 (Some c.args.task))) kept)
 
 pub returns-clause-beside : goal.returns-clause-beside
 returns-clause-beside g c = (

@@ -1,0 +1,9 @@
+use Rattle.std.proofs.Common.{inl, inr}
+use Rattle.task_graph.proofs.held.Held.deliver_to.Goals as goal
+
+pub enqueue_if-requires-clause-queued : goal.enqueue_if-requires-clause-queued
+enqueue_if-requires-clause-queued g c =
+    λ q runs. elim (c.deliver_to-settled.ensures.runs q runs) [ inl of ↦ inl of | inr before ↦ inr (c.requires.held.queued q before) ]
+
+pub enqueue_if-requires-clause-least : goal.enqueue_if-requires-clause-least
+enqueue_if-requires-clause-least g c = λ q is. c.deliver_to-settled.ensures.stays q (c.requires.held.least q is)
