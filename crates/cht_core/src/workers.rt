@@ -60,10 +60,12 @@ impl<L: Library> Core<L> {
         requires idle { IsIdleIn (state L.meanings self.old) w }
         ensures { IsEntered L.meanings L.Chunk.arity self.old self.new w task result }
     {
-        match self.kept.row(task) {
+        // The row is looked at where it is, and not moved.
+        let found = self.kept.row(task);
+        match &found {
             None => Begin::NotReady(TaskStatus::Unknown),
             Some(row) => match row.status() {
-                TaskStatus::Ready => self.begin_ready(w, task, &row),
+                TaskStatus::Ready => self.begin_ready(w, task, row),
                 status => Begin::NotReady(status),
             },
         }
