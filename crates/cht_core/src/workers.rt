@@ -55,6 +55,7 @@ impl<L: Library> Core<L> {
 
     /// The same for a worker that gets what the task is shown of its inputs: each is null, or the owner's object with the mask of the
     /// children that are there.
+    #[inline(always)]
     pub fn begin(&mut self, w: u32, task: TaskNo) -> Begin<L>
         requires worker { w < self.old.workers }
         requires idle { IsIdleIn (state L.meanings self.old) w }
