@@ -55,15 +55,18 @@ impl<L: Library> Core<L> {
 
     /// The same for a worker that gets what the task is shown of its inputs: each is null, or the owner's object with the mask of the
     /// children that are there.
+    #[inline(always)]
     pub fn begin(&mut self, w: u32, task: TaskNo) -> Begin<L>
         requires worker { w < self.old.workers }
         requires idle { IsIdleIn (state L.meanings self.old) w }
         ensures { IsEntered L.meanings L.Chunk.arity self.old self.new w task result }
     {
-        match self.kept.row(task) {
+        // The row is looked at where it is, and not moved.
+        let found = self.kept.row(task);
+        match &found {
             None => Begin::NotReady(TaskStatus::Unknown),
             Some(row) => match row.status() {
-                TaskStatus::Ready => self.begin_ready(w, task, &row),
+                TaskStatus::Ready => self.begin_ready(w, task, row),
                 status => Begin::NotReady(status),
             },
         }

@@ -107,6 +107,7 @@ fn run<L: Library>(
 }
 
 // Begins the newest task that is known to be ready; `None` where it is not ready any more, or none is known.
+#[inline(always)]
 fn begin_newest<L: Library>(
     core: &mut Core<L>,
     newest: &mut Vec<TaskNo>,
@@ -124,7 +125,8 @@ fn begin_newest<L: Library>(
     }
 }
 
-// Begins the least task that is ready.
+// Begins the least task that is ready. This is done once for an ask, and kept out of what is done for each task.
+#[inline(never)]
 fn begin_least<L: Library>(core: &mut Core<L>) -> Result<Execution<L>, Memory>
     requires waiting { IsWaiting L.meanings core.old }
     requires ready { (task : ℕ) × IsRunnable (state L.meanings core.old).graph task }

@@ -131,9 +131,11 @@ fn make_space<K: Copy>(
     requires { IsSome (task_at graph.now.graph task) }
     ensures { OnOk result (HasRoom graph.now.graph task chunks tasks space.new) }
 {
-    let row = graph.row(task).unwrap();
+    // The row is looked at where it is, and not moved.
+    let found = graph.row(task);
+    let row = found.as_ref().unwrap();
     space.caller = row.caller;
-    read_inputs(&row, &mut space.inputs)?;
+    read_inputs(row, &mut space.inputs)?;
     space.made.clear();
     space.made.reserve(chunks)?;
     space.numbers.clear();

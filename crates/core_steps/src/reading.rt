@@ -50,6 +50,7 @@ fn nth_child<C: Payload>(names: &Refs<C>, id: Id, j: u8) -> Ref
 }
 
 // Child `j` of what a live reference names, counted from 0; null past the last one, and for null.
+#[inline(never)]
 fn child_at<C: Payload>(names: &Refs<C>, r: Ref, j: u8) -> Ref
     requires { IsLiveRef names.now.names r }
     ensures value { result ≡ child_named names.now.names r j }
@@ -63,6 +64,7 @@ fn child_at<C: Payload>(names: &Refs<C>, r: Ref, j: u8) -> Ref
 
 /// What a place of an outcome names, over the references of the task's inputs and of its new chunks; null for the output of
 /// a new task, and past the end.
+#[inline(always)]
 pub fn read_place<C: Payload>(names: &Refs<C>, inputs: &[Ref], made: &[Ref], place: Place) -> Ref
     requires inputs { AreLive names.now.names inputs.now }
     requires made { AreLive names.now.names made.now }

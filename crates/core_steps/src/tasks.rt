@@ -41,6 +41,7 @@ fn copy_for<C: Payload>(names: &mut Refs<C>, task: TaskNo, r: Ref, number: u128)
 }
 
 // A copy for a task, under the next number, of what a place names.
+#[inline(never)]
 fn hold_named<C: Payload>(
     names: &mut Refs<C>,
     counter: &mut Counter,
@@ -78,6 +79,7 @@ fn number_at(numbers: &[TaskNo], place: u8) -> TaskNo
 }
 
 // The input that a task has for a place. It holds a copy of what is known, and awaits the output of a new task; either takes the next number.
+#[inline(always)]
 fn hold_place<C: Payload>(
     names: &mut Refs<C>,
     counter: &mut Counter,
