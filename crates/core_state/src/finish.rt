@@ -392,6 +392,7 @@ impl<C: Payload, K: Copy> CoreState<C, K> {
         });
         Ok(List::from_vec(ready))
     }
+
     /// Takes the list that a finish answered, so that the next finish uses its memory again. Nothing that is known of the core changes.
     pub fn take_back(&mut self, ready: List<TaskNo>)
         ensures { self.new ≡ self.old }

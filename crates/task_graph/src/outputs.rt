@@ -205,7 +205,9 @@ impl<K: Copy> Parts<K> {
     {
         match awaiter {
             Awaiter::Input {
-                task: of, place, ..
+                task: of,
+                place,
+                ..
             } => self.settle_first(spot_at(*of, *place), r),
             Awaiter::Asked { .. } => {
                 self.unask(task);

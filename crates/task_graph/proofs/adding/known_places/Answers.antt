@@ -11,8 +11,8 @@ loop-i-preserved c =
     let low : c.loop-i.i < length c.args.inputs.now = c.loop-i-test.true in
     let room : c.loop-i.i < length (each opened_place c.loop-i.places) = omega (arith, length-map c.loop-i.places opened_place, c.loop-i.invariant.1, c.requires) in (
       ap (take (c.loop-i.i + 1)) (map-set opened_place c.loop-i.places c.loop-i.i c.known.result)
-      ∙ ap (λ v. take (c.loop-i.i + 1) (set (each opened_place c.loop-i.places) c.loop-i.i v)) c.known.ensures
-      ∙ step_places c.loop-i.i (each opened_place c.loop-i.places) c.args.inputs.now _ room low c.loop-i.invariant.0,
+          ∙ ap (λ v. take (c.loop-i.i + 1) (set (each opened_place c.loop-i.places) c.loop-i.i v)) c.known.ensures
+          ∙ step_places c.loop-i.i (each opened_place c.loop-i.places) c.args.inputs.now _ room low c.loop-i.invariant.0,
       length-set c.loop-i.places c.loop-i.i c.known.result ∙ c.loop-i.invariant.1,
     )
 

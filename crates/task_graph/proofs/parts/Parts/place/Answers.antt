@@ -21,7 +21,7 @@ lead_back-requires-clause-there g c = λ q is.
     let t = after_there bounds old c.args.entry.caller c.args.task c.requires.ordered c.around-gap.result.0 c.around-gap.result.1 free q is in
     let fresh : old c.args.task ≡ None = ap (option_map station_of) c.requires.new in
     let kept : station_at (entries_at c.insert.new.self) q ≡ Some t.0 =
-        ap (option_map station_of) (other_put (entries_at c.args.self.now.entries) (entries_at c.insert.new.self) c.args.task _ c.insert.ensures.at q (λ same. not_none (old c.args.task) t.0 fresh (ap old (sym same) ∙ t.1))) ∙ t.1 in
+    ap (option_map station_of) (other_put (entries_at c.args.self.now.entries) (entries_at c.insert.new.self) c.args.task _ c.insert.ensures.at q (λ same. not_none (old c.args.task) t.0 fresh (ap old (sym same) ∙ t.1))) ∙ t.1 in
     entry_behind (entries_at c.lead_on.new.self.entries) q (with_after_at q c.around-gap.result.0 (Some c.args.task) t.0)
     (c.lead_on.ensures.stations q ∙ ap (option_map (with_after_at q c.around-gap.result.0 (Some c.args.task))) kept)
 
