@@ -64,12 +64,12 @@ few_taken zero xs = omega arith
 few_taken (suc count) [] = omega arith
 few_taken (suc count) (x ∷ xs) = omega (arith, few_taken count xs)
 
-few_each : {X Y : Type 0} {f : X → Y} {count : ℕ} {xs : List X} → count ≤ 4 → length (each f (take count xs)) ≤ 4
-few_each {X} {Y} {f} {count} {xs} few = omega (arith, few, length-map (take count xs) f, few_taken count xs)
+few_each : {X Y : Type 0} (f : X → Y) (count : ℕ) (xs : List X) → count ≤ 4 → length (each f (take count xs)) ≤ 4
+few_each f count xs few = omega (arith, few, length-map (take count xs) f, few_taken count xs)
 
 -- a row has as many inputs as it counts, at most
 pub few_in : {K : Type 0} (row : TaskRow K) → row.count ≤ 4 → length (unfinished_in row).inputs ≤ 4
-few_in row few = few_each few
+few_in row few = few_each _ row.count _ few
 
 -- a reference that is an input is live
 pub inputs_live : {C K : Type 0} (arity : C → ℕ) (control : Control C (Unit {0}) K) → IsOrderly arity control → (task : ℕ) (t : Unfinished Ref K)
